@@ -1,0 +1,9 @@
+pub mod Numbered
+pub mod Sums
+pub mod Soft
+pub mod Order
+pub mod Cost
+pub mod Least
+pub mod Plain
+pub mod Packed
+pub mod Readings

@@ -1,2 +1,3 @@
 pub mod Best
 pub mod Signs
+pub mod Packing_lists

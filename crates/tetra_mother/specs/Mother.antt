@@ -25,7 +25,7 @@ unfoldable pub output : (ℕ → ℕ → Bool) → List Bool → ℕ → ℕ →
 output taps bits k i = sum2 (term taps bits k i) 5
 
 -- bit v of the mother word, V(outs (k-1) + i) being output i of step k
-abbrev pub mother_bit : (ℕ → ℕ → Bool) → ℕ → List Bool → ℕ → Bool
+unfoldable pub mother_bit : (ℕ → ℕ → Bool) → ℕ → List Bool → ℕ → Bool
 mother_bit taps outs bits v = output taps bits ((v - 1) / outs + 1) ((v - 1) % outs + 1)
 
 -- 1 for a bit that is set
@@ -33,11 +33,11 @@ abbrev pub number : Bool → ℕ
 number b = cond b 1 0
 
 -- the state before step k: the four bits before it, the last one highest
-abbrev pub state_before : List Bool → ℕ → ℕ
+unfoldable pub state_before : List Bool → ℕ → ℕ
 state_before bits k = 8 * number (bit_back bits k 1) + 4 * number (bit_back bits k 2) + 2 * number (bit_back bits k 3) + number (bit_back bits k 4)
 
 -- the state to which bit b leads from state s
-abbrev pub next_state : ℕ → Bool → ℕ
+unfoldable pub next_state : ℕ → Bool → ℕ
 next_state s b = s / 2 + 8 * number b
 
 -- the bit j steps back, seen from a step that takes b in state s

@@ -1,5 +1,5 @@
 -- The state form gives the mother word.
-use Rattle.std.proofs.Common.{ℕ, ◌+◌, ◌-◌, ◌*◌, ◌≡◌, Bool, true, false, cond, List, slice_index_or, nat_lt, arith, refl, ap, ◌∙◌}
+use Rattle.std.proofs.Common.{ℕ, ◌+◌, ◌-◌, ◌<◌, ◌≤◌, ◌*◌, ◌≡◌, Bool, true, false, cond, List, slice_index_or, nat_lt, arith, refl, ap, ◌∙◌}
 use Rattle.std.proofs.lemmas.Bool.Decides.{nat_tests}
 use Rattle.tetra_mother.specs.Mother.{bit_back, output, number, state_before, next_state, seen, edge}
 
@@ -28,13 +28,13 @@ seen_state x false false false false = (refl, refl, refl, refl)
 
 -- a step's output in the state of its four bits before
 pub edge_is_output : (g : ℕ → ℕ → Bool) (bits : List Bool) (k i s : ℕ) (b : Bool) → s ≡ state_before bits k → b ≡ bit_back bits k 0 → edge g s b i ≡ output g bits k i
-unfolding edge output state_of
+unfolding edge output state_of state_before
 edge_is_output g bits k i s b e f =
     let h = seen_state b (bit_back bits k 1) (bit_back bits k 2) (bit_back bits k 3) (bit_back bits k 4) in
     rw (e, h.0, h.1, h.2, h.3, f)
 
 next_of : (x a b c d : Bool) → next_state (state_of a b c d) x ≡ state_of x a b c
-unfolding state_of
+unfolding state_of next_state
 next_of true true true true true = refl
 next_of true true true true false = refl
 next_of true true true false true = refl
@@ -77,7 +77,7 @@ back_more bits k j =
 
 -- the state before the next step
 pub next_is_state : (bits : List Bool) (k : ℕ) (s : ℕ) (b : Bool) → s ≡ state_before bits k → b ≡ bit_back bits k 0 → next_state s b ≡ state_before bits (k + 1)
-unfolding state_of
+unfolding state_of state_before
 next_is_state bits k s b e f =
     let n = next_of (bit_back bits k 0) (bit_back bits k 1) (bit_back bits k 2) (bit_back bits k 3) (bit_back bits k 4) in
     let b1 : bit_back bits (k + 1) 1 ≡ bit_back bits k 0 = back_more bits k 0 in
@@ -88,4 +88,19 @@ next_is_state bits k s b e f =
 
 -- no bit is before the first step
 pub state_first : (bits : List Bool) → state_before bits 1 ≡ 0
+unfolding state_before
 state_first bits = refl
+
+number_small : (b : Bool) → number b ≤ 1
+number_small true = omega arith
+number_small false = omega arith
+
+-- the states are 0 to 15
+pub next_small : (s : ℕ) (b : Bool) → s < 16 → next_state s b < 16
+unfolding next_state
+next_small s b h = omega (arith, number_small b)
+
+pub state_small : (bits : List Bool) (k : ℕ) → state_before bits k < 16
+unfolding state_before
+state_small bits k =
+    omega (arith, number_small (bit_back bits k 1), number_small (bit_back bits k 2), number_small (bit_back bits k 3), number_small (bit_back bits k 4))

@@ -1,13 +1,17 @@
-// A library with one function.
+//! Puncturing: which bits of a mother word are sent (EN 300 392-2 clause 8.2.3), and what is said of any punctured code:
+//! its first-least message, its costs to go, and the rules that show them.
 #![tactic(auto)]
 
-ghost use Rattle.std.specs.Prelude.{◌≡◌};
-ghost use Rattle.tetra_puncture.specs.Echo.{echo_of};
+mod laws;
+mod plan;
+mod rule;
+mod sending;
+mod spreading;
+mod two_thirds;
 
-// The `ensures` clause is the contract: what `echo` returns is `echo_of` of its argument, a definition
-// in `specs/Echo.antt`, which a caller's clause can cite too.
-pub fn echo(x: usize) -> usize
-    ensures { result ≡ echo_of x }
-{
-    x
-}
+pub use laws::{cost_to_go_is_one, words_differ};
+pub use plan::Plan;
+pub use rule::Rule;
+pub use sending::keep;
+pub use spreading::spread;
+pub use two_thirds::TwoThirds;

@@ -1,0 +1,10 @@
+pub mod Plan
+pub mod Places
+pub mod Differ
+pub mod TwoThirdsLaws
+pub mod Spread
+pub mod Best
+pub mod Trellis
+pub mod Decoding
+pub mod Rules
+pub mod Certified

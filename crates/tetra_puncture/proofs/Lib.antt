@@ -6,3 +6,4 @@ pub mod Potentials
 pub mod Beats
 pub mod Paths
 pub mod Certificates
+pub mod ToGo

@@ -1,5 +1,5 @@
 // Laws of the definitions.
-ghost use Rattle.tetra_puncture.specs.Certified.{CostToGoIsOne};
+ghost use Rattle.tetra_puncture.specs.Certified.{AcceptedIsCertified, CostToGoIsOne};
 ghost use Rattle.tetra_puncture.specs.Plan.{WordsDiffer};
 
 use crate::plan::Plan;
@@ -8,6 +8,11 @@ use crate::plan::Plan;
 pub fn words_differ<P: Plan>()
     requires { P.IsSound }
     ensures { WordsDiffer P.plan }
+{}
+
+/// Where all rules hold, the message is first-least, and the table shows it, whoever made the table.
+pub fn accepted_is_certified()
+    ensures { AcceptedIsCertified }
 {}
 
 /// There is one cost to go from a state.

@@ -5,3 +5,4 @@ pub mod Steps
 pub mod Potentials
 pub mod Beats
 pub mod Paths
+pub mod Certificates

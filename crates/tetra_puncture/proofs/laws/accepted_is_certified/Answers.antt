@@ -1,0 +1,5 @@
+use Rattle.tetra_puncture.proofs.Certificates.{accepted_is_certified}
+use Rattle.tetra_puncture.proofs.laws.accepted_is_certified.Goals as goal
+
+pub returns : goal.returns
+returns c = accepted_is_certified

@@ -6,3 +6,5 @@ pub mod Potentials
 pub mod Beats
 pub mod Paths
 pub mod Certificates
+pub mod Bounds
+pub mod Rows

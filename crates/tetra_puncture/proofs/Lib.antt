@@ -8,3 +8,4 @@ pub mod Paths
 pub mod Certificates
 pub mod Bounds
 pub mod Rows
+pub mod Checking

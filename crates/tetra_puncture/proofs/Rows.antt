@@ -129,3 +129,120 @@ least_branch_set p wide rows u t s new ne =
     let a : over_branch p wide (set rows u new) t s false ≡ over_branch p wide rows t s false = over_branch_set p wide rows u t s false new ne in
     let b : over_branch p wide (set rows u new) t s true ≡ over_branch p wide rows t s true = over_branch_set p wide rows u t s true new ne in
     rw (a, b) refl
+
+pub back_start : (p : CodePlan) (wide : List ℤ) (rows : List (List ℕ)) → length rows ≡ p.steps + 1 → ((s : ℕ) → s < 16 → entry rows p.steps s ≡ 0) → BackFrom p wide rows p.steps
+back_start p wide rows long zeros = record {
+  long = long;
+  end = zeros;
+  before = λ u s from inside h. absurd (omega arith);
+  small = λ u s from within h. let e : u ≡ p.steps = omega arith in rw e (omega (arith, zeros s h));
+}
+
+-- one more row, whose entries are the least branches over the rows so far
+module _ (p : CodePlan) (wide : List ℤ) (rows : List (List ℕ)) (new : List ℕ) (t u : ℕ) (few : p.outs ≤ 4) (soft : AllSoft wide)
+    (next : t ≡ u + 1) (within : t ≤ p.steps) (done : BackFrom p wide rows t) (made : (s : ℕ) → s < 16 → get_or new s 0 ≡ least_branch p wide rows u s) where
+  new_entry : (s : ℕ) → s < 16 → entry (set rows u new) u s ≡ least_branch p wide rows u s
+  new_entry s h = let long : length rows ≡ p.steps + 1 = done.long in entry_set_same rows u s new (omega arith) ∙ made s h
+
+  new_before : (v s : ℕ) → u ≤ v → v < p.steps → s < 16 → entry (set rows u new) v s ≡ least_branch p wide (set rows u new) v s
+  new_before v s from inside h = elim (cases_lt u v) [
+    | inl lt ↦
+        entry_set_other rows u v s new (omega arith) ∙ done.before v s (omega arith) inside h ∙ sym (least_branch_set p wide rows u v s new (omega arith))
+    | inr le ↦
+        let e : v ≡ u = omega arith in
+        rw e (new_entry s h ∙ sym (least_branch_set p wide rows u u s new (omega arith)))
+  ]
+
+  branch_small : (s : ℕ) (b : Bool) → s < 16 → over_branch p wide rows u s b ≤ 508 * (p.steps - u)
+  unfolding over_branch
+  branch_small s b h =
+      let step : step_cost p wide u s b ≤ 508 = step_cost_small p wide u s b few soft in
+      let rest : entry rows t (next_state s b) ≤ 508 * (p.steps - t) = done.small t (next_state s b) (omega arith) within (next_small s b h) in
+      let here : entry rows (u + 1) (next_state s b) ≡ entry rows t (next_state s b) = ap (λ v. entry rows v (next_state s b)) (sym next) in
+      omega arith
+
+  least_small : (s : ℕ) → s < 16 → least_branch p wide rows u s ≤ 508 * (p.steps - u)
+  least_small s h = elim (cases_lt (u + 4) p.steps) [
+    | inl lt ↦ omega (arith, least_both p wide rows u s lt, branch_small s false h)
+    | inr le ↦ omega (arith, least_tail p wide rows u s le, branch_small s false h)
+  ]
+
+  new_small : (v s : ℕ) → u ≤ v → v ≤ p.steps → s < 16 → entry (set rows u new) v s ≤ 508 * (p.steps - v)
+  new_small v s from inside h = elim (cases_lt u v) [
+    | inl lt ↦ omega (arith, entry_set_other rows u v s new (omega arith), done.small v s (omega arith) inside h)
+    | inr le ↦ let e : v ≡ u = omega arith in rw e (omega (arith, new_entry s h, least_small s h))
+  ]
+
+  pub back_step : BackFrom p wide (set rows u new) u
+  back_step = record {
+    long = length-set rows u new ∙ done.long;
+    end = λ s h. entry_set_other rows u p.steps s new (omega arith) ∙ done.end s h;
+    before = new_before;
+    small = new_small;
+  }
+
+pub back_backward : (p : CodePlan) (wide : List ℤ) (rows : List (List ℕ)) → BackFrom p wide rows 0 → IsBackward p wide rows
+back_backward p wide rows done = record { end = done.end; before = λ t s inside h. done.before t s (omega arith) inside h }
+
+-- the bits before step t, which lead to this state
+pub record TracedTo (p : CodePlan) (wide : List ℤ) (rows : List (List ℕ)) (m : List Bool) (state t : ℕ) : Type 0 where
+  pub long : length m ≡ t
+  pub state_is : state ≡ state_passed m t
+  pub small : state < 16
+  pub traced : IsTraced p wide rows m
+
+pub trace_start : (p : CodePlan) (wide : List ℤ) (rows : List (List ℕ)) → TracedTo p wide rows [] 0 0
+unfolding IsTraced
+trace_start p wide rows = record { long = refl; state_is = sym (state_passed_first []); small = omega arith; traced = λ t h. absurd (omega arith) }
+
+bit_before : (m : List Bool) (b : Bool) (k : ℕ) → k < length m → bit_at (m ++ b ∷ []) k ≡ bit_at m k
+bit_before m b k h = grind (arith, common_steps)
+
+bit_last : (m : List Bool) (b : Bool) → bit_at (m ++ b ∷ []) (length m) ≡ b
+bit_last m b = grind (arith, common_steps)
+
+-- one more bit
+module _ (p : CodePlan) (wide : List ℤ) (rows : List (List ℕ)) (m : List Bool) (s t : ℕ) (b : Bool) (done : TracedTo p wide rows m s t)
+    (chosen : b ≡ not (eqb (entry rows t s) (over_branch p wide rows t s false))) where
+  more : List Bool
+  more = m ++ b ∷ []
+
+  last : bit_at more t ≡ b
+  unfolding more
+  last = ap (bit_at more) (sym done.long) ∙ bit_last m b
+
+  same_state : (k : ℕ) → k ≤ t → state_passed more k ≡ state_passed m k
+  unfolding more
+  same_state k h = state_passed_same more m k (λ j below. bit_before m b j (omega (arith, done.long)))
+
+  state_next : next_state s b ≡ state_passed more (t + 1)
+  state_next =
+      let here : state_passed more t ≡ s = same_state t (omega arith) ∙ sym done.state_is in
+      let bit : bit_taken more t ≡ b = bit_taken_is more t ∙ last in
+      sym (state_passed_more more t ∙ rw (here, bit) refl)
+
+  traced_more : (k : ℕ) → k < length more → bit_at more k ≡ not (eqb (entry rows k (state_passed more k)) (over_branch p wide rows k (state_passed more k) false))
+  unfolding more IsTraced
+  traced_more k h =
+      let long : length more ≡ length m + 1 = length-append m (b ∷ []) in
+      let before : length m ≡ t = done.long in
+      elim (cases_lt k t) [
+        | inl lt ↦
+            let P : ℕ → Type 0 = λ u. bit_at more k ≡ not (eqb (entry rows k u) (over_branch p wide rows k u false)) in
+            subst P (sym (same_state k (omega arith))) (bit_before m b k (omega arith) ∙ done.traced k (omega arith))
+        | inr ge ↦
+            let e : k ≡ t = omega arith in
+            let here : state_passed more t ≡ s = same_state t (omega arith) ∙ sym done.state_is in
+            let P : ℕ → Type 0 = λ u. bit_at more t ≡ not (eqb (entry rows t u) (over_branch p wide rows t u false)) in
+            let Q : ℕ → Type 0 = λ u. bit_at more u ≡ not (eqb (entry rows u (state_passed more u)) (over_branch p wide rows u (state_passed more u) false)) in
+            subst Q (sym e) (subst P (sym here) (last ∙ chosen))
+      ]
+
+  pub trace_step : TracedTo p wide rows (m ++ b ∷ []) (next_state s b) (t + 1)
+  unfolding more IsTraced
+  trace_step = record {
+    long = length-append m (b ∷ []) ∙ (let long : length m ≡ t = done.long in omega arith);
+    state_is = state_next;
+    small = next_small s b done.small;
+    traced = traced_more;
+  }

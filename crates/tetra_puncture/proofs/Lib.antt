@@ -6,4 +6,7 @@ pub mod Potentials
 pub mod Beats
 pub mod Paths
 pub mod Certificates
+pub mod Bounds
+pub mod Rows
+pub mod Checking
 pub mod ToGo

@@ -1,15 +1,19 @@
 -- How costs to go and the first-least message are found: rows from the end backwards, and bits from the first step on.
-use Rattle.std.specs.Prelude.{◌≡◌, ℕ, ◌+◌, ◌<◌, ◌≤◌, Bool, true, false, not, ◌==◌, min, List, length, ℤ}
+use Rattle.std.specs.Prelude.{◌≡◌, ℕ, ◌+◌, ◌<◌, Bool, true, false, not, cond, ◌==◌, min, nat_lt, List, length, ℤ}
 use Rattle.tetra_bits.specs.Order.{bit_at}
 use Rattle.tetra_bits.specs.Readings.{entry}
 use Rattle.tetra_puncture.specs.Plan.{CodePlan}
 use Rattle.tetra_puncture.specs.Trellis.{over_branch, state_passed}
 
--- each row comes from the next: 0 behind the last step, bit 0 alone at the last four steps, and the lesser way before them
+-- the lesser of the allowed ways from state s before step t: both bits, but bit 0 alone at the last four steps
+unfoldable pub least_branch : CodePlan → List ℤ → List (List ℕ) → ℕ → ℕ → ℕ
+least_branch p wide table t s =
+    cond (nat_lt (t + 4) p.steps) (min (over_branch p wide table t s false) (over_branch p wide table t s true)) (over_branch p wide table t s false)
+
+-- each row comes from the next, the row behind the last step being 0
 pub record IsBackward (p : CodePlan) (wide : List ℤ) (table : List (List ℕ)) : Type 0 where
   pub end : (s : ℕ) → s < 16 → entry table p.steps s ≡ 0
-  pub tail : (t s : ℕ) → t < p.steps → p.steps ≤ t + 4 → s < 16 → entry table t s ≡ over_branch p wide table t s false
-  pub both : (t s : ℕ) → t + 4 < p.steps → s < 16 → entry table t s ≡ min (over_branch p wide table t s false) (over_branch p wide table t s true)
+  pub before : (t s : ℕ) → t < p.steps → s < 16 → entry table t s ≡ least_branch p wide table t s
 
 -- each bit of the message is 0 exactly where bit 0 reaches the entry
 unfoldable pub IsTraced : CodePlan → List ℤ → List (List ℕ) → List Bool → Type 0

@@ -5,5 +5,6 @@ pub mod Order
 pub mod Cost
 pub mod Least
 pub mod Plain
+pub mod Undamaged
 pub mod Packed
 pub mod Readings

@@ -1,14 +1,13 @@
 -- The metric of a message over its sent places is the cost of its path over the spread values.
 use Prim.Native.Nat.{zero, suc}
-use Rattle.std.proofs.Common.{◌≡◌, ◌≢◌, ℕ, ◌+◌, ◌-◌, ◌*◌, ◌<◌, ◌≤◌, ◌⊎◌, inl, inr, Bool, true, false, List, [], ◌∷◌, length, get_or, ℤ, pos, arith, refl, sym, ◌∙◌, ap}
-use Rattle.std.proofs.lemmas.Bool.{cases_eq, cases_lt}
+use Rattle.std.proofs.Common.{◌≡◌, ◌≢◌, ℕ, ◌+◌, ◌-◌, ◌*◌, ◌<◌, ◌≤◌, inl, inr, Bool, true, false, List, [], ◌∷◌, length, ℤ, pos, arith, refl, sym, ◌∙◌, ap}
+use Rattle.std.proofs.lemmas.Bool.{cases_eq}
 use Rattle.tetra_bits.specs.Cost.{cost, cost_at, metric}
-use Rattle.tetra_bits.specs.Numbered.{get_or-numbered}
 use Rattle.tetra_bits.specs.Order.{bit_at}
 use Rattle.tetra_bits.specs.Soft.{value_at}
 use Rattle.tetra_bits.specs.Sums.{sum_below}
 use Rattle.tetra_bits.proofs.Signs.{sum_same}
-use Rattle.tetra_mother.specs.Mother.{edge, output, mother_bit, next_state, state_before}
+use Rattle.tetra_mother.specs.Mother.{edge, mother_bit, next_state, state_before}
 use Rattle.tetra_mother.specs.States.{edge_is_output}
 use Rattle.tetra_puncture.specs.Plan.{CodePlan, PlacesRise, PlacesLie, IsMessage, tailed, sent_bit, word}
 use Rattle.tetra_puncture.specs.Best.{message_metric}

@@ -10,3 +10,4 @@ pub mod Bounds
 pub mod Rows
 pub mod Checking
 pub mod ToGo
+pub mod Sent

@@ -1,0 +1,4 @@
+pub mod Shapes
+pub mod Outcomes
+pub mod Working
+pub mod Lines

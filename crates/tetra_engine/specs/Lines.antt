@@ -8,17 +8,17 @@ use Rattle.tetra_engine.specs.declared.status.Status.{Status}
 use Rattle.tetra_engine.specs.declared.status.Status.TheVariants.{Done, Refused, Words, Input, Read, Write, TooLong, NotBuilt}
 use Rattle.tetra_engine.specs.declared.status.End.{End}
 
-abbrev pub why_text : WordWhy → List ℕ
-why_text NoCommand = codes "no command"
-why_text UnknownCommand = codes "unknown command"
-why_text NotPair = codes "not a pair"
-why_text UnknownKey = codes "unknown key"
-why_text NotHere = codes "not for this command"
-why_text Repeated = codes "repeated"
-why_text BadNumber = codes "not a number"
-why_text OutOfRange = codes "out of range"
-why_text UnknownValue = codes "unknown value"
-why_text NotUplink = codes "uplink only"
+abbrev pub word_text : WordWhy → List ℕ
+word_text NoCommand = codes "no command"
+word_text UnknownCommand = codes "unknown command"
+word_text NotPair = codes "not a pair"
+word_text UnknownKey = codes "unknown key"
+word_text NotHere = codes "not for this command"
+word_text Repeated = codes "repeated"
+word_text BadNumber = codes "not a number"
+word_text OutOfRange = codes "out of range"
+word_text UnknownValue = codes "unknown value"
+word_text NotUplink = codes "uplink only"
 
 abbrev pub record_text : RecordFault → List ℕ
 record_text UnknownKind = codes "unknown kind"
@@ -29,7 +29,7 @@ record_text Truncated = codes "truncated"
 abbrev pub line_by : Status → ℕ → List ℕ
 line_by Done slots = []
 line_by (Refused slot count) slots = codes "refused: first slot " ++ decimal slot ++ codes ", count " ++ decimal count
-line_by (Words index why) slots = codes "word " ++ decimal index ++ codes ": " ++ why_text why
+line_by (Words index why) slots = codes "word " ++ decimal index ++ codes ": " ++ word_text why
 line_by (Input slot why) slots = codes "input: slot " ++ decimal slot ++ codes ": " ++ record_text why
 line_by Read slots = codes "read failed after " ++ decimal slots ++ codes " slots"
 line_by Write slots = codes "write failed after " ++ decimal slots ++ codes " slots"

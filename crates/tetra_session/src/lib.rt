@@ -1,0 +1,4 @@
+//! The four timeslots of a session: what is sent and what is read, slot by slot.
+#![tactic(auto)]
+
+mod burst;

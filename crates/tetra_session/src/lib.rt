@@ -2,3 +2,6 @@
 #![tactic(auto)]
 
 mod burst;
+mod laws;
+
+pub use laws::burst_arrives;

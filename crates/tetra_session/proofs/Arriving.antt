@@ -11,12 +11,17 @@ use Rattle.tetra_session.specs.declared.burst.Train.{Train}
 use Rattle.tetra_session.specs.declared.burst.Train.TheVariants.{N, P}
 use Rattle.tetra_session.specs.declared.burst.Source.TheVariants.{Silent, Tail, FirstBlock, Training, SecondBlock}
 use Rattle.tetra_session.specs.Burst.{source_at, level, written, burst, burst_value, word_position, word_value, word_values, text_bits, training, training_value, training_values, training_cost, kind}
-use Rattle.tetra_session.specs.Undamaged.{HasSign, Keeps, IsUndamaged, BurstArrives}
-use Rattle.tetra_session.proofs.Signs.{signs_free, signs_cost}
+use Rattle.tetra_bits.specs.Undamaged.{HasSign, IsUndamaged}
+use Rattle.tetra_bits.proofs.Written.{written_free, others_cost}
+use Rattle.tetra_session.specs.Undamaged.{Keeps, KeepsSlot, BurstArrives}
 
 level_kept : (b : Bool) (v : ℤ) → Keeps (level b) v → HasSign b v
 level_kept true v h = h
 level_kept false v h = h
+
+training_size : (train : Train) → length (text_bits (training train)) ≡ 22
+training_size N = refl
+training_size P = refl
 
 -- the sources of the positions that are read
 source_first : (k : ℕ) → 1 ≤ k → k ≤ 216 → source_at (38 + k) ≡ FirstBlock k
@@ -41,7 +46,7 @@ written_at train word p low high =
     let back : p - 1 + 1 ≡ p = omega arith in
     get_or-numbered (burst_value train word) 510 (p - 1) (pos 0) (omega arith) ∙ ap (λ q. written train word (source_at q)) back
 
-module _ (train : Train) (word : List Bool) (received : List ℤ) (undamaged : IsUndamaged (burst train word) received) where
+module _ (train : Train) (word : List Bool) (received : List ℤ) (undamaged : KeepsSlot (burst train word) received) where
   kept_at : (p : ℕ) (b : Bool) → 1 ≤ p → p ≤ 510 → written train word (source_at p) ≡ level b → HasSign b (value_at received (p - 1))
   kept_at p b low high e =
       let kept = rw (written_at train word p low high, e) at (undamaged.keeps (p - 1) (omega arith)) in
@@ -76,18 +81,22 @@ module _ (train : Train) (word : List Bool) (received : List ℤ) (undamaged : I
   unfolding training_values
   size = length-numbered (training_value received) 22
 
-  signs_here : (k : ℕ) → k < length (training_values received) → HasSign (bit_at (text_bits (training train)) k) (value_at (training_values received) k)
-  signs_here k h = training_signs k (omega (arith, size))
+  training_arrives : IsUndamaged (text_bits (training train)) (training_values received)
+  training_arrives = record { size = size ∙ sym (training_size train); signs = λ k h. training_signs k (omega (arith, training_size train)) }
 
   own_free : training_cost received train ≡ 0
   unfolding training_cost
-  own_free = signs_free (training_values received) (text_bits (training train)) signs_here
+  own_free = written_free (text_bits (training train)) (training_values received) training_arrives
 
-  other_costs : (other : Train) → bit_at (text_bits (training train)) 0 ≢ bit_at (text_bits (training other)) 0 → 0 < training_cost received other
+  other_costs : (other : Train) → (text_bits (training other) ≡ text_bits (training train) → ⊥) → 0 < training_cost received other
   unfolding training_cost
-  other_costs other d = signs_cost (training_values received) (text_bits (training train)) signs_here (text_bits (training other)) 0 (omega (arith, size)) d
+  other_costs other apart =
+      elim (others_cost (text_bits (training train)) (text_bits (training other)) (training_values received) training_arrives (training_size other ∙ sym (training_size train))) [
+        | inl e ↦ absurd (apart e)
+        | inr costs ↦ costs
+      ]
 
-kind_sent : (train : Train) (word : List Bool) (received : List ℤ) → IsUndamaged (burst train word) received → kind received ≡ train
+kind_sent : (train : Train) (word : List Bool) (received : List ℤ) → KeepsSlot (burst train word) received → kind received ≡ train
 unfolding kind
 kind_sent N word received u =
     let free : training_cost received N ≡ 0 = own_free N word received u in
@@ -95,9 +104,14 @@ kind_sent N word received u =
     rw (le-ltb _ _ more) refl
 kind_sent P word received u =
     let free : training_cost received P ≡ 0 = own_free P word received u in
-    let more : 0 < training_cost received N = other_costs P word received u N (λ e. cc) in
+    let more : 0 < training_cost received N = other_costs P word received u N (λ e. let first : true ≡ false = ap (λ xs. bit_at xs 0) e in cc) in
     let less : training_cost received P < training_cost received N = omega arith in
     rw (lt-ltb _ _ less) refl
 
+word_sent : (train : Train) (word : List Bool) (received : List ℤ) → length word ≡ 432 → KeepsSlot (burst train word) received → IsUndamaged word (word_values received)
+unfolding word_values
+word_sent train word received l u =
+    record { size = length-numbered (word_value received) 432 ∙ sym l; signs = λ k h. word_signs train word received u k (omega (arith, l)) }
+
 pub burst_arrives : BurstArrives
-burst_arrives = record { signs = word_signs; kind = kind_sent }
+burst_arrives = record { word = word_sent; kind = kind_sent }

@@ -2,7 +2,7 @@
 -- For k from 1 on, p(k) is the sum modulo 2 of p(k - i) over thirteen distances i and 32, where p(0) to p(-29) are the
 -- bits e(1) to e(30) of the colour, and p(-30) = p(-31) = 1.
 use Prim.Native.Nat.{zero, suc}
-use Rattle.std.specs.Prelude.{◌≡◌, ℕ, ◌+◌, ◌-◌, ◌<◌, ◌≤◌, Bool, true, false, nat_lt, cond, List, [], ◌∷◌, ◌++◌, length}
+use Rattle.std.specs.Prelude.{◌≡◌, ℕ, ◌-◌, ◌≤◌, Bool, true, false, nat_lt, cond, List, [], ◌∷◌, ◌++◌, length}
 use Rattle.tetra_bits.specs.Numbered.{numbered}
 use Rattle.tetra_bits.specs.Order.{bit_at}
 use Rattle.tetra_bits.specs.Sums.{add2}

@@ -12,17 +12,19 @@ use crate::tracing::trace;
 use tetra_bits::{Bits, Potentials, Soft};
 use tetra_puncture::{Plan, spread};
 
-/// The first-least message of a plan, its metric, and the potentials that certify it: `STEPS - 4` bits, and a row of
-/// 16 costs to go before each step and one behind the last, `STEPS + 1` rows.
+/// What a received block is solved to. This project's own.
 #[derive(Drop)]
 pub struct Solved {
+    /// The first-least message, `STEPS - 4` bits.
     pub message: Bits,
+    /// Its metric.
     pub metric: u32,
+    /// The costs to go, `STEPS + 1` rows: one before each step and one behind the last. They certify the message.
     pub potentials: Potentials,
 }
 
-/// Fills `message` and `potentials` as in `Solved`, and answers the metric. What they held before is gone. `soft` has
-/// `SENT` values.
+/// Fills `message` and `potentials` with those of `Solved`, and answers the metric. What they held before is gone. `soft`
+/// has `SENT` values.
 pub fn solve_into<P: Plan>(soft: &Soft, message: &mut Bits, potentials: &mut Potentials) -> u32
     requires sound { P.IsSound }
     requires size { length soft.now ≡ P.SENT }
@@ -41,7 +43,7 @@ pub fn solve_into<P: Plan>(soft: &Soft, message: &mut Bits, potentials: &mut Pot
     potentials.at(0, 0)
 }
 
-/// The first-least message over `SENT` soft values, its metric, and the costs to go.
+/// The first-least message of a plan over received soft values, its metric, and the costs to go. `soft` has `SENT` values.
 pub fn solve<P: Plan>(soft: &Soft) -> Solved
     requires sound { P.IsSound }
     requires size { length soft.now ≡ P.SENT }

@@ -1,10 +1,6 @@
-use Rattle.std.proofs.Common.{◌≡◌, ◌<◌, ◌≤◌, ◌+◌, ℕ, arith, ap, sym, subst, ◌∙◌}
-use Rattle.tetra_bits.specs.Readings.{entry}
-use Rattle.tetra_puncture.specs.Plan.{IsMessage}
-use Rattle.tetra_puncture.specs.Decoding.{IsBackward, IsTraced}
+use Rattle.std.proofs.Common.{sym, subst, ◌∙◌}
 use Rattle.tetra_puncture.specs.Rules.{IsAccepted}
-use Rattle.tetra_puncture.specs.Spread.{spread_values}
-use Rattle.tetra_puncture.specs.Certified.{Fits, IsCertified}
+use Rattle.tetra_puncture.specs.Certified.{Fits}
 use Rattle.tetra_puncture.proofs.Rows.{traced_accepted, backward_is_cost_to_go}
 use Rattle.tetra_puncture.specs.Trellis.{AllCostsToGo}
 use Rattle.tetra_puncture.proofs.Certificates.{certified}

@@ -23,7 +23,7 @@ unfolding sum_below
 sum_more n f = let e : n + 1 ≡ suc n = omega arith in rw e refl
 
 -- a sum of two parts
-sum_parts : (a b : ℕ) (f : ℕ → ℕ) → sum_below (a + b) f ≡ sum_below a f + sum_below b (λ k. f (a + k))
+pub sum_parts : (a b : ℕ) (f : ℕ → ℕ) → sum_below (a + b) f ≡ sum_below a f + sum_below b (λ k. f (a + k))
 unfolding sum_below
 sum_parts a zero f = let e : a + 0 ≡ a = omega arith in rw e (omega arith)
 sum_parts a (suc b) f =
@@ -43,7 +43,7 @@ sum_rows outs (suc n) f =
 
 -- a sum of terms that are 0 but at the places of the first n sent bits
 module _ (p : CodePlan) (rise : PlacesRise p) (lie : PlacesLie p) (f : ℕ → ℕ) where
-  sum_placed : (m n : ℕ) → n ≤ p.sent → ((j : ℕ) → 1 ≤ j → j ≤ n → p.place j ≤ m) →
+  pub sum_placed : (m n : ℕ) → n ≤ p.sent → ((j : ℕ) → 1 ≤ j → j ≤ n → p.place j ≤ m) →
       ((v : ℕ) → v < m → ((j : ℕ) → 1 ≤ j → j ≤ n → p.place j ≢ v + 1) → f v ≡ 0) →
       sum_below m f ≡ sum_below n (λ k. f (p.place (k + 1) - 1))
   unfolding sum_below

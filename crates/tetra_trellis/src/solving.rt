@@ -4,6 +4,7 @@ ghost use Rattle.tetra_bits.specs.Readings.{entry};
 ghost use Rattle.tetra_puncture.specs.Best.{best_of, message_metric};
 ghost use Rattle.tetra_puncture.specs.Rules.{IsAccepted};
 ghost use Rattle.tetra_puncture.specs.Spread.{spread_values};
+ghost use Rattle.tetra_puncture.specs.ToGo.{potentials_of};
 ghost use Rattle.tetra_puncture.specs.Trellis.{AllCostsToGo};
 
 use crate::labels::Labels;
@@ -34,6 +35,9 @@ pub fn solve_into<P: Plan>(soft: &Soft, message: &mut Bits, potentials: &mut Pot
     ensures rows { length potentials.new ≡ P.STEPS + 1 }
     ensures states { (t : ℕ) → t ≤ P.STEPS → length (slice_index_or potentials.new t []) ≡ 16 }
     ensures potentials { AllCostsToGo P.plan (spread_values P.plan soft.now) potentials.new }
+    ensures exact { potentials.new ≡ potentials_of P.plan soft.now }
+    ensures small { (t s : ℕ) → t ≤ P.STEPS → s < 16 → entry potentials.new t s ≤ 127 * P.SENT }
+    ensures small_metric { result ≤ 127 * P.SENT }
     ensures accepted { IsAccepted P.plan (spread_values P.plan soft.now) message.new potentials.new }
 {
     let wide = spread::<P>(soft);
@@ -53,6 +57,9 @@ pub fn solve<P: Plan>(soft: &Soft) -> Solved
     ensures rows { length result.potentials ≡ P.STEPS + 1 }
     ensures states { (t : ℕ) → t ≤ P.STEPS → length (slice_index_or result.potentials t []) ≡ 16 }
     ensures potentials { AllCostsToGo P.plan (spread_values P.plan soft.now) result.potentials }
+    ensures exact { result.potentials ≡ potentials_of P.plan soft.now }
+    ensures small { (t s : ℕ) → t ≤ P.STEPS → s < 16 → entry result.potentials t s ≤ 127 * P.SENT }
+    ensures small_metric { result.metric ≤ 127 * P.SENT }
     ensures accepted { IsAccepted P.plan (spread_values P.plan soft.now) result.message result.potentials }
 {
     let mut message = Bits::new();

@@ -1,7 +1,8 @@
 // Coded channels.
 ghost use Rattle.std.specs.Prelude.{◌≡◌, ◌+◌, length};
+ghost use Rattle.tetra_puncture.specs.Best.{IsFirstLeast};
 ghost use Rattle.tetra_channels.specs.Channels.{IsChannel, type3_bits, type5_bits, front_values};
-ghost use Rattle.tetra_channels.specs.Fields.{coded_reading};
+ghost use Rattle.tetra_channels.specs.Fields.{coded_reading, IsMarked};
 ghost use Rattle.tetra_channels.specs.Laws.{UndamagedIsRead};
 
 use crate::message::{mark, message};
@@ -65,7 +66,19 @@ impl<const PAR: usize, const K3: usize, const A: usize, const INV: usize, P: Pla
         ensures values { result ≡ front_values K3 A key.now soft.now }
         ensures size { length result ≡ K3 }
     {
-        Block::<K3, A, INV>::soft_back(&flip_soft(soft, key, 1))
+        let mut values = Soft::new();
+        Self::front_into(soft, key, &mut values);
+        values
+    }
+
+    /// The same into a list that is there.
+    pub fn front_into(soft: &Soft, key: &Key, values: &mut Soft)
+        requires channel { IsChannel P.IsSound PAR K3 A INV P.plan }
+        requires size { length soft.now ≡ K3 }
+        ensures values { values.new ≡ front_values K3 A key.now soft.now }
+        ensures size { length values.new ≡ K3 }
+    {
+        Block::<K3, A, INV>::soft_back_into(&flip_soft(soft, key, 1), values);
     }
 
     /// What is read over `K3` values in the order of type-3 bits: the first-least message of the code, its metric, and
@@ -74,7 +87,9 @@ impl<const PAR: usize, const K3: usize, const A: usize, const INV: usize, P: Pla
     pub fn decode3(soft: &Soft) -> Reading
         requires channel { IsChannel P.IsSound PAR K3 A INV P.plan }
         requires size { length soft.now ≡ K3 }
-        ensures { result ≡ coded_reading PAR P.plan soft.now }
+        ensures reading { result ≡ coded_reading PAR P.plan soft.now }
+        ensures first_least { IsFirstLeast P.plan soft.now result.bits }
+        ensures marked { IsMarked PAR result.mark result.bits }
     {
         let mut reading = Reading {
             mark: Mark::Unchecked,
@@ -90,7 +105,9 @@ impl<const PAR: usize, const K3: usize, const A: usize, const INV: usize, P: Pla
     pub fn decode3_into(soft: &Soft, reading: &mut Reading)
         requires channel { IsChannel P.IsSound PAR K3 A INV P.plan }
         requires size { length soft.now ≡ K3 }
-        ensures { reading.new ≡ coded_reading PAR P.plan soft.now }
+        ensures reading { reading.new ≡ coded_reading PAR P.plan soft.now }
+        ensures first_least { IsFirstLeast P.plan soft.now reading.new.bits }
+        ensures marked { IsMarked PAR reading.new.mark reading.new.bits }
     {
         let potentials = reading.potentials.get_or_insert_with(Potentials::new);
         reading.metric = solve_into::<P>(soft, &mut reading.bits, potentials);

@@ -9,3 +9,6 @@ mod raw;
 
 pub use coded::{Bsch, Coded, Full, Half, Hu};
 pub use raw::Raw72;
+
+#[cfg(test)]
+mod tests;

@@ -31,6 +31,15 @@ fn received(draw: u64) -> Soft
     soft
 }
 
+/// How many of the bits are 1.
+fn ones(bits: &Bits) -> u32 {
+    let mut ones = 0u32;
+    for i in 0..bits.len() {
+        ones = ones.wrapping_add(u32::from(bits.get(i)));
+    }
+    ones
+}
+
 /// What is timed.
 #[derive(Clone, Copy)]
 enum Work {
@@ -65,7 +74,7 @@ impl Work {
                 Verdict::Accepted => 1,
                 Verdict::Refused { .. } => 0,
             },
-            Work::Keep => keep::<SchF>(message).len() as u32,
+            Work::Keep => ones(&keep::<SchF>(message)),
         }
     }
 }

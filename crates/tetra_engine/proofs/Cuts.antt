@@ -33,3 +33,14 @@ same_from shape one before most (x ∷ xs) (y ∷ ys) u v e fx fy lx ly nx ny =
 pub one_cut : {X : Type 0} (shape : Shape X) → IsUnambiguous shape → OneCut shape
 one_cut shape one max bytes xs ys u v a b =
     same_from shape one [] max xs ys u v (sym a.whole ∙ b.whole) a.each b.each a.few b.few a.longest b.longest
+
+-- lists of one length that begin the same list are the same
+pub same_front : {X : Type 0} (n : ℕ) (a b u v : List X) → length a ≡ n → length b ≡ n → a ++ u ≡ b ++ v → a ≡ b
+same_front n [] [] u v la lb e = refl
+same_front n [] (y ∷ b) u v la lb e = absurd (omega arith)
+same_front n (x ∷ a) [] u v la lb e = absurd (omega arith)
+same_front n (x ∷ a) (y ∷ b) u v la lb e =
+    let rest : a ++ u ≡ b ++ v = cc e in
+    let same : a ≡ b = same_front (length a) a b u v refl (omega arith) rest in
+    let head : x ≡ y = cc e in
+    cc (same, head)

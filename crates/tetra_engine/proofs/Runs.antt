@@ -47,8 +47,8 @@ pub ran_none : {X : Type 0} (shape : Shape X) (max : ℕ) (r t : Option (List �
 ran_none shape max r t = record { slots_is = refl; few = omega arith; each = tt; came = Consumes-nil r; wrote = Appends-nil t }
 
 -- no bytes begin no input
-no_input_in_part : {X : Type 0} (shape : Shape X) (xs : List X) (p : List ℕ) → ((x : X) → 0 < length (shape.spelling x)) → IsPart shape xs p → NoInput shape xs p
-no_input_in_part shape xs p some (inl none) x rest fits e = absurd (omega (arith, ap length e, ap length none, length-append (shape.spelling x) rest, some x))
+no_input_in_part : {X : Type 0} (shape : Shape X) (xs : List X) (p : List ℕ) → ((before : List X) (x : X) → shape.Fits before x → 0 < length (shape.spelling x)) → IsPart shape xs p → NoInput shape xs p
+no_input_in_part shape xs p some (inl none) x rest fits e = absurd (omega (arith, ap length e, ap length none, length-append (shape.spelling x) rest, some xs x fits))
 no_input_in_part shape xs p some (inr why) x rest fits e = why.0 x rest fits e
 
 -- a read that fails behind the last slot took nothing
@@ -62,7 +62,7 @@ ended_part shape max xs m (a ∷ p) r (inr fewer) split (inr why) =
 
 -- what a failed read leaves
 pub read_front : {X : Type 0} (shape : Shape X) (max n : ℕ) (xs : List X) (r0 r1 r2 t0 t1 : Option (List ℕ))
-    → ((x : X) → 0 < length (shape.spelling x)) → Ran shape max n xs r0 r1 t0 t1 → (length xs < max) ⊎ TakesFewer r1 r2 1 → TakesPart shape xs r1 r2
+    → ((before : List X) (x : X) → shape.Fits before x → 0 < length (shape.spelling x)) → Ran shape max n xs r0 r1 t0 t1 → (length xs < max) ⊎ TakesFewer r1 r2 1 → TakesPart shape xs r1 r2
     → Came r0 r2 (ReadFront shape max (Appends t0 t1) (record { status = Read; slots = n }))
 read_front shape max n xs None r1 r2 t0 t1 some ran few part = tt
 read_front shape max n xs (Some b) r1 None t0 t1 some ran few part = tt
@@ -213,7 +213,7 @@ flush_front NotBuilt shape max r0 r1 t0 t1 t2 end ends other kept = flush_outcom
 
 -- nothing is left
 done_outcome : {X : Type 0} (shape : Shape X) (max n : ℕ) (xs : List X) (status : Status) (r0 r1 t0 t1 : Option (List ℕ))
-    → ((x : X) → 0 < length (shape.spelling x)) → Ran shape max n xs r0 r1 t0 t1 → IsAtEnd r1 → status ≡ shape.done xs
+    → ((before : List X) (x : X) → shape.Fits before x → 0 < length (shape.spelling x)) → Ran shape max n xs r0 r1 t0 t1 → IsAtEnd r1 → status ≡ shape.done xs
     → IfSome r0 (λ bytes. Outcome shape max bytes (Appends t0 t1) (record { status = status; slots = n }))
 done_outcome shape max n xs status None r1 t0 t1 some ran none is = tt
 done_outcome shape max n xs status (Some b) None t0 t1 some ran none is = absurd ran.came
@@ -221,14 +221,14 @@ done_outcome shape max n xs status (Some b) (Some (a ∷ m)) t0 t1 some ran none
 done_outcome shape max n xs status (Some b) (Some []) t0 t1 some ran none is = record {
   xs = xs;
   rest = [];
-  cut = record { whole = ran.came; each = ran.each; few = ran.few; longest = λ _ x rest fits e. absurd (omega (arith, ap length e, length-append (shape.spelling x) rest, some x)) };
+  cut = record { whole = ran.came; each = ran.each; few = ran.few; longest = λ _ x rest fits e. absurd (omega (arith, ap length e, length-append (shape.spelling x) rest, some xs x fits)) };
   closes = is;
   slots = ran.slots_is;
   output = ran.wrote;
 }
 
 pub done_front : {X : Type 0} (shape : Shape X) (max n : ℕ) (xs : List X) (status : Status) (r0 r1 r2 t0 t1 : Option (List ℕ))
-    → ((x : X) → 0 < length (shape.spelling x)) → Ran shape max n xs r0 r1 t0 t1 → IsAtEnd r1 → status ≡ shape.done xs → IsEnd status
+    → ((before : List X) (x : X) → shape.Fits before x → 0 < length (shape.spelling x)) → Ran shape max n xs r0 r1 t0 t1 → IsAtEnd r1 → status ≡ shape.done xs → IsEnd status
     → EndsBy status shape max r0 r2 (TookBefore status t0 t1) (record { status = status; slots = n })
 done_front shape max n xs Done r0 r1 r2 t0 t1 some ran none is quiet = done_outcome shape max n xs Done r0 r1 t0 t1 some ran none is
 done_front shape max n xs (Refused s c) r0 r1 r2 t0 t1 some ran none is quiet = done_outcome shape max n xs (Refused s c) r0 r1 t0 t1 some ran none is

@@ -1,7 +1,7 @@
 -- The texts of ends, and the numbers that the program ends with.
 use Rattle.std.specs.Prelude.{ℕ, List, [], ◌++◌, codes, decimal}
-use Rattle.tetra_engine.specs.declared.temporary.WordWhy.{WordWhy}
-use Rattle.tetra_engine.specs.declared.temporary.WordWhy.TheVariants.{NoCommand, UnknownCommand, NotPair, UnknownKey, NotHere, Repeated, BadNumber, OutOfRange, UnknownValue, NotUplink}
+use Rattle.tetra_settings.specs.declared.types.WordWhy.{WordWhy}
+use Rattle.tetra_settings.specs.declared.types.WordWhy.TheVariants.{NoCommand, UnknownCommand, NotPair, UnknownKey, NotHere, Repeated, BadNumber, OutOfRange, UnknownValue, NotUplink}
 use Rattle.tetra_engine.specs.declared.temporary.RecordFault.{RecordFault}
 use Rattle.tetra_engine.specs.declared.temporary.RecordFault.TheVariants.{UnknownKind, WrongKind, PadBit, Truncated}
 use Rattle.tetra_engine.specs.declared.status.Status.{Status}

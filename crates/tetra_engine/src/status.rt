@@ -1,5 +1,6 @@
 // How a run ends.
-use crate::temporary::{RecordFault, WordWhy};
+use crate::temporary::RecordFault;
+use tetra_settings::WordWhy;
 
 /// Why a run ended. This project's own.
 #[derive(Clone, Copy, Debug, PartialEq, Eq)]

@@ -3,14 +3,15 @@ ghost use Rattle.std.specs.Prelude.{◌<◌, length, ◌≡◌, ◌≢◌, ◌�
 ghost use Rattle.std.specs.Io.KnownBytes.{Appends, IsAtEnd};
 ghost use Rattle.tetra_io.specs.Streams.{Rose, HasCause};
 ghost use Rattle.tetra_io.specs.Filling.{AddsFront};
-ghost use Rattle.tetra_engine.specs.declared.temporary.Settings.{Settings};
+ghost use Rattle.tetra_settings.specs.declared.types.Settings.{Settings};
 ghost use Rattle.tetra_engine.specs.Shapes.{Shape};
 ghost use Rattle.tetra_engine.specs.Outcomes.{EndsBy, TookBefore, IsEnd, Grows};
 ghost use Rattle.tetra_engine.specs.Working.{NextGives, NextRose};
 
 use crate::status::{End, Status};
-use crate::temporary::{RecordFault, Settings};
+use crate::temporary::RecordFault;
 use tetra_io::{Filled, Sink, SinkFault, Source, fill};
+use tetra_settings::Settings;
 
 /// What came next from a source.
 #[derive(Clone, Copy, Debug, PartialEq, Eq)]
@@ -46,7 +47,8 @@ pub trait Work {
 
     /// Reads the input of the slot behind those that were read.
     fn read<S: Source>(&mut self, src: &mut S, slot: u32) -> Next
-        requires { slot < 16777216 }
+        requires slot { slot < 16777216 }
+        requires stands { (xs : List Input) × stands self.old xs × (slot ≡ length xs) }
         ensures gives { (xs : List Input) → stands self.old xs → slot ≡ length xs → NextGives (shape (settings self.old)) xs (S.rest src.old) (S.rest src.new) (holds self.new xs) (stands self.new xs) result }
         ensures settings { settings self.new ≡ settings self.old }
         ensures later { S.faults src.old ≤ S.faults src.new }
@@ -67,7 +69,7 @@ pub trait Work {
         ensures quiet { IsEnd result };
 
     /// A spelling is not empty.
-    ghost some: { (s : Settings) (x : Input) → 0 < length ((shape s).spelling x) };
+    ghost some: { (s : Settings) (before : List Input) (x : Input) → (shape s).Fits before x → 0 < length ((shape s).spelling x) };
 }
 
 /// The loop over the slots of a command, up to the end of the input or the first fault.

@@ -1,8 +1,8 @@
 -- The reading of a coded field from what the decoder answers.
-use Rattle.std.proofs.Common.{◌≡◌, ℕ, ◌+◌, ◌-◌, ◌*◌, ◌<◌, ◌≤◌, ◌≢◌, ◌⊎◌, inl, inr, Bool, true, false, cond, nat_eq, ℤ, List, [], length, get_or, Some, refl, arith}
+use Rattle.std.proofs.Common.{◌≡◌, ℕ, ◌+◌, ◌-◌, ◌*◌, ◌≤◌, ◌≢◌, ◌⊎◌, inl, inr, Bool, true, false, cond, ℤ, List, [], length, get_or, Some, refl, arith}
 use Rattle.tetra_bits.specs.Soft.{AllSoft}
 use Rattle.tetra_bits.specs.declared.reading.Mark.{Mark}
-use Rattle.tetra_bits.specs.declared.reading.Mark.TheVariants.{Good, Bad, Unchecked, NotYet}
+use Rattle.tetra_bits.specs.declared.reading.Mark.TheVariants.{Good, Bad, Unchecked}
 use Rattle.tetra_bits.proofs.Best.{best_is_first}
 use Rattle.tetra_parity.specs.Parity.{Holds16, holds16_of}
 use Rattle.tetra_parity.proofs.Messages.{tests_parity}

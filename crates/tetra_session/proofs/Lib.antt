@@ -5,3 +5,4 @@ pub mod OneField
 pub mod Answering
 pub mod ApartLemmas
 pub mod SlotsArriving
+pub mod FieldLemmas

@@ -2,10 +2,9 @@
 use Rattle.std.proofs.Common.{ℕ, ℤ, ◌≡◌, ◌+◌, Bool, true, false, IsTrue, List, [], ◌∷◌, length, arith, refl, ap, sym, ◌∙◌}
 use Rattle.tetra_bits.specs.Undamaged.{IsUndamaged}
 use Rattle.tetra_bits.specs.declared.reading.Reading.{Reading}
-use Rattle.tetra_channels.specs.Channels.{type3_bits, type4_bits, type5_bits, raw_bits, message_of}
+use Rattle.tetra_channels.specs.Channels.{type3_bits, type4_bits, type5_bits, raw_bits}
 use Rattle.tetra_channels.specs.Fields.{coded_reading, raw_reading}
 use Rattle.tetra_channels.specs.Laws.{UndamagedIsRead, UndamagedRawIsRead, written_reading, written_raw}
-use Rattle.tetra_parity.specs.Parity.{with_parity16}
 use Rattle.tetra_puncture.specs.Places.{two_thirds}
 use Rattle.tetra_scramble.proofs.Entries.{length-flipped}
 use Rattle.tetra_interleave.proofs.Places.{length-interleaved}
@@ -58,7 +57,7 @@ module _ (full_read : UndamagedIsRead 16 103 151 (two_thirds 288 432)) (raw_read
     items letter e = ap (λ l. fields_read l (key_of settings.colour) received) e
 
     full : (block : List Bool) → blocks.body ≡ Full block → SlotRead blocks (slot_reading settings earlier received)
-    unfolding slot_written full_values letter_heard written_reading message_of
+    unfolding slot_written full_values letter_heard written_reading
     full block e =
         let fit = fits_full settings (length history) blocks block fits e in
         let sent = rw e at kept in

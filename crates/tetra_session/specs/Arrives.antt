@@ -2,7 +2,7 @@
 use Rattle.std.specs.Prelude.{ℕ, ℤ, ◌≡◌, Bool, List, [], ◌∷◌, length}
 use Rattle.tetra_bits.specs.declared.reading.Mark.{Mark}
 use Rattle.tetra_bits.specs.declared.reading.Mark.TheVariants.{Good, Unchecked}
-use Rattle.tetra_parity.specs.Parity.{with_parity16}
+use Rattle.tetra_channels.specs.Channels.{message_of}
 use Rattle.tetra_settings.specs.Slots.{byte_of}
 use Rattle.tetra_settings.specs.Blocks.{Fits, letter_of}
 use Rattle.tetra_settings.specs.declared.types.Settings.{Settings}
@@ -29,7 +29,7 @@ pub record HasField (reading : SlotReading) (name : FieldName) (mark : Mark) (bi
 
 -- the blocks of a body are read: SCH/F with its parity and Good, unprotected data Unchecked
 abbrev pub BlocksRead : Body → SlotReading → Type 0
-BlocksRead (Full block) reading = HasField reading FullName Good (with_parity16 block)
+BlocksRead (Full block) reading = HasField reading FullName Good (message_of 16 block)
 BlocksRead (Traffic load) reading = HasField reading D72 Unchecked load
 BlocksRead body reading = ⊥
 

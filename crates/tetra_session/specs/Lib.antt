@@ -6,3 +6,4 @@ pub mod Sent
 pub mod Heard
 pub mod Apart
 pub mod Arrives
+pub mod Fronts

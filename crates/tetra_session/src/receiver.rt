@@ -1,5 +1,5 @@
 // Receiving, slot by slot.
-ghost use Rattle.std.specs.Prelude.{◌≡◌, ◌<◌, ◌++◌, ◌∷◌, [], List, ℤ, IsTrue, length};
+ghost use Rattle.std.specs.Prelude.{◌≡◌, ◌<◌, ◌++◌, ◌∷◌, [], List, ℤ, IsTrue, All};
 ghost use Rattle.tetra_bits.specs.Soft.{AllSoft};
 ghost use Rattle.tetra_scramble.specs.Key.{key_of};
 ghost use Rattle.tetra_settings.specs.Validity.{IsValid, IsInRanges};
@@ -24,6 +24,8 @@ pub struct Receiver {
 
 impl Receiver {
     ghost use Rattle.tetra_session.specs.Built.{IsBuilt, IsBuiltLetter};
+    ghost use Rattle.tetra_settings.specs.Readings.{IsWellFormed};
+    ghost use Rattle.tetra_session.specs.Fronts.{IsFront, IsBounded};
     ghost use Rattle.tetra_session.specs.Heard.{ReceiverStands, letter_heard, slot_letter, slot_front, slot_reading};
 
     /// A receiver before its first slot. The settings are valid, and built ones.
@@ -63,6 +65,7 @@ impl Receiver {
         requires built { IsBuiltLetter (slot_letter self.old.settings self.old.turn soft.now) }
         ensures front { (settings : _) (history : List (List ℤ)) → ReceiverStands settings history self.old
             → result ≡ slot_front settings history soft.now }
+        ensures well_formed { IsFront result }
         ensures stands { (settings : _) (history : List (List ℤ)) → ReceiverStands settings history self.old
             → ReceiverStands settings (history ++ soft.now ∷ []) self.new }
     {
@@ -81,6 +84,7 @@ impl Receiver {
         requires built { IsBuiltLetter (slot_letter self.old.settings self.old.turn soft.now) }
         ensures front { (settings : _) (history : List (List ℤ)) → ReceiverStands settings history self.old
             → front.new ≡ slot_front settings history soft.now }
+        ensures well_formed { IsFront front.new }
         ensures stands { (settings : _) (history : List (List ℤ)) → ReceiverStands settings history self.old
             → ReceiverStands settings (history ++ soft.now ∷ []) self.new }
     {
@@ -98,6 +102,8 @@ impl Receiver {
         requires built { IsBuiltLetter (slot_letter self.old.settings self.old.turn soft.now) }
         ensures reading { (settings : _) (history : List (List ℤ)) → ReceiverStands settings history self.old
             → result ≡ slot_reading settings history soft.now }
+        ensures well_formed { IsWellFormed result }
+        ensures bounded { All IsBounded result.fields.items }
         ensures stands { (settings : _) (history : List (List ℤ)) → ReceiverStands settings history self.old
             → ReceiverStands settings (history ++ soft.now ∷ []) self.new }
     {
@@ -116,6 +122,8 @@ impl Receiver {
         requires built { IsBuiltLetter (slot_letter self.old.settings self.old.turn soft.now) }
         ensures reading { (settings : _) (history : List (List ℤ)) → ReceiverStands settings history self.old
             → reading.new ≡ slot_reading settings history soft.now }
+        ensures well_formed { IsWellFormed reading.new }
+        ensures bounded { All IsBounded reading.new.fields.items }
         ensures stands { (settings : _) (history : List (List ℤ)) → ReceiverStands settings history self.old
             → ReceiverStands settings (history ++ soft.now ∷ []) self.new }
     {

@@ -1,18 +1,16 @@
 -- The fields of a slot: their sizes, and how great their numbers are.
 use Prim.Native.Nat.{zero, suc}
-use Rattle.std.proofs.Common.{ℕ, ℤ, ◌≡◌, ◌+◌, ◌-◌, ◌*◌, ◌<◌, ◌≤◌, ◌⊎◌, inl, inr, Bool, true, false, IsTrue, cond, List, [], ◌∷◌, length, map, get_or, Some, arith, refl, ap, sym, ◌∙◌}
+use Rattle.std.proofs.Common.{ℕ, ℤ, ◌≡◌, ◌+◌, ◌-◌, ◌*◌, ◌≤◌, inl, inr, Bool, true, false, IsTrue, cond, List, [], ◌∷◌, length, map, get_or, Some, arith, refl, ◌∙◌}
 use Rattle.std.proofs.lemmas.Bool.{cases_lt}
 use Rattle.std.proofs.lemmas.List.{get_or_past}
 use Rattle.std.specs.Prelude.{All}
 use Rattle.arrayvec.specs.ArrayVec.{ArrayVec}
 use Rattle.tetra_bits.specs.Cost.{metric}
-use Rattle.tetra_bits.specs.Least.{best}
 use Rattle.tetra_bits.specs.Numbered.{numbered, get_or-numbered, length-numbered}
 use Rattle.tetra_bits.specs.Plain.{best_plain}
 use Rattle.tetra_bits.specs.Readings.{entry}
 use Rattle.tetra_bits.specs.Soft.{AllSoft}
-use Rattle.tetra_bits.specs.declared.reading.Mark.{Mark}
-use Rattle.tetra_bits.specs.declared.reading.Mark.TheVariants.{Good, Bad, Unchecked}
+use Rattle.tetra_bits.specs.declared.reading.Mark.TheVariants.{Good, Bad}
 use Rattle.tetra_bits.proofs.Best.{best_is_first}
 use Rattle.tetra_channels.specs.Channels.{front_values}
 use Rattle.std.specs.Prelude.{pos}
@@ -23,7 +21,7 @@ use Rattle.tetra_puncture.specs.Best.{best_of, message_metric}
 use Rattle.tetra_puncture.specs.Places.{two_thirds, IsTwoThirds}
 use Rattle.tetra_puncture.specs.Plan.{CodePlan, PlacesRise, PlacesLie}
 use Rattle.tetra_puncture.specs.Spread.{spread_values}
-use Rattle.tetra_puncture.specs.ToGo.{cost_to_go, potential, potential_row, potentials_of}
+use Rattle.tetra_puncture.specs.ToGo.{potential, potential_row, potentials_of}
 use Rattle.tetra_puncture.specs.TwoThirdsLaws.{two_thirds_rise, two_thirds_lie}
 use Rattle.tetra_puncture.proofs.Bounds.{message_metric_small}
 use Rattle.tetra_puncture.proofs.Sent.{cost_to_go_sent}
@@ -32,14 +30,13 @@ use Rattle.tetra_scramble.proofs.Entries.{length-turned}
 use Rattle.tetra_settings.specs.Slots.{byte_of}
 use Rattle.tetra_settings.specs.Readings.{IsRow, IsMarked, HasRows, rows_of, IsField, IsWellFormed}
 use Rattle.tetra_settings.specs.declared.types.Mode.TheVariants.{D72 as RawMode}
-use Rattle.tetra_settings.specs.declared.types.Settings.{Settings}
 use Rattle.tetra_settings.specs.declared.slots.Letter.{Letter}
 use Rattle.tetra_settings.specs.declared.slots.Letter.TheVariants.{F, H, S, T, P, Q, C}
 use Rattle.tetra_settings.specs.declared.readings.Field.{Field}
 use Rattle.tetra_settings.specs.declared.readings.FieldName.TheVariants.{Full, D72}
 use Rattle.tetra_session.specs.Built.{is_built_letter}
 use Rattle.tetra_session.specs.Burst.{word_values, word_value}
-use Rattle.tetra_session.specs.Heard.{full_values, raw_values, fields_heard, fields_read, letter_heard, slot_front, slot_reading}
+use Rattle.tetra_session.specs.Heard.{full_values, raw_values, fields_heard, fields_read}
 use Rattle.tetra_session.specs.declared.front.FrontField.{FrontField}
 use Rattle.tetra_session.proofs.Answering.{front_made, reading_made}
 use Rattle.tetra_session.specs.Fronts.{IsFrontField, IsFront, IsBounded}

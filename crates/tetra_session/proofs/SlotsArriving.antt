@@ -1,7 +1,6 @@
 -- What is read of undamaged slots.
-use Rattle.std.proofs.Common.{ℕ, ℤ, ◌≡◌, ◌+◌, Bool, true, false, IsTrue, List, [], ◌∷◌, length, arith, refl, ap, sym, ◌∙◌}
+use Rattle.std.proofs.Common.{ℤ, ◌≡◌, ◌+◌, Bool, true, false, List, length, arith, refl, ap, sym, ◌∙◌}
 use Rattle.tetra_bits.specs.Undamaged.{IsUndamaged}
-use Rattle.tetra_bits.specs.declared.reading.Reading.{Reading}
 use Rattle.tetra_channels.specs.Channels.{type3_bits, type4_bits, type5_bits, raw_bits}
 use Rattle.tetra_channels.specs.Fields.{coded_reading, raw_reading}
 use Rattle.tetra_channels.specs.Laws.{UndamagedIsRead, UndamagedRawIsRead, written_reading, written_raw}
@@ -9,23 +8,21 @@ use Rattle.tetra_puncture.specs.Places.{two_thirds}
 use Rattle.tetra_scramble.proofs.Entries.{length-flipped}
 use Rattle.tetra_interleave.proofs.Places.{length-interleaved}
 use Rattle.tetra_scramble.specs.Key.{key_of}
-use Rattle.tetra_settings.specs.Slots.{byte_of, use_of, mode_of}
+use Rattle.tetra_settings.specs.Slots.{byte_of}
 use Rattle.tetra_settings.specs.Blocks.{Fits, letter_of}
-use Rattle.tetra_settings.specs.declared.types.Mode.TheVariants.{D72}
 use Rattle.tetra_settings.specs.declared.types.Settings.{Settings}
 use Rattle.tetra_settings.specs.declared.slots.Letter.{Letter}
 use Rattle.tetra_settings.specs.declared.slots.Letter.TheVariants.{F, T}
-use Rattle.tetra_settings.specs.declared.slots.SlotUse.TheVariants.{Signalling, Traffic as TrafficUse}
 use Rattle.tetra_settings.specs.declared.blocks.Body.{Body}
 use Rattle.tetra_settings.specs.declared.blocks.Body.TheVariants.{Full, Halves, Sync, Traffic, Stolen, Both, Control}
 use Rattle.tetra_settings.specs.declared.blocks.SlotBlocks.{SlotBlocks}
 use Rattle.tetra_settings.specs.declared.readings.FieldName.TheVariants.{Full as FullName, D72 as D72Name}
-use Rattle.tetra_session.specs.Built.{is_built, is_built_letter}
-use Rattle.tetra_session.specs.Burst.{burst, word_values, kind}
-use Rattle.tetra_session.specs.Sent.{slot_written, word_of, full_bits}
-use Rattle.tetra_session.specs.Heard.{letter_heard, letter_by, full_values, raw_values, fields_read, slot_reading}
+use Rattle.tetra_session.specs.Built.{is_built}
+use Rattle.tetra_session.specs.Burst.{word_values, kind}
+use Rattle.tetra_session.specs.Sent.{slot_written, full_bits}
+use Rattle.tetra_session.specs.Heard.{letter_heard, full_values, raw_values, fields_read, slot_reading}
 use Rattle.tetra_session.specs.Undamaged.{KeepsSlot}
-use Rattle.tetra_session.specs.Arrives.{BlocksRead, SlotRead, SlotsArrive}
+use Rattle.tetra_session.specs.Arrives.{SlotRead, SlotsArrive}
 use Rattle.tetra_session.specs.declared.burst.Train.TheVariants.{N}
 use Rattle.tetra_session.proofs.Arriving.{burst_arrives}
 use Rattle.tetra_session.proofs.Fitting.{fits_full, fits_raw}
@@ -42,7 +39,7 @@ raw_size key block = length-flipped block key 1
 
 module _ (full_read : UndamagedIsRead 16 103 151 (two_thirds 288 432)) (raw_read : UndamagedRawIsRead) where
   module _ (settings : Settings) (history : List SlotBlocks) (blocks : SlotBlocks) (earlier : List (List ℤ)) (received : List ℤ) (built : is_built settings ≡ true)
-    (fits : Fits settings (length history) blocks) (same : length earlier ≡ length history) (kept : KeepsSlot (slot_written settings history blocks) received) where
+      (fits : Fits settings (length history) blocks) (same : length earlier ≡ length history) (kept : KeepsSlot (slot_written settings history blocks) received) where
     abbrev key_bits : List Bool
     key_bits = key_of settings.colour
 

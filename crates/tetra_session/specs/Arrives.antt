@@ -1,5 +1,5 @@
 -- What is read of undamaged slots.
-use Rattle.std.specs.Prelude.{ℕ, ℤ, ◌≡◌, Bool, List, [], ◌∷◌, length}
+use Rattle.std.specs.Prelude.{ℤ, ◌≡◌, Bool, List, [], ◌∷◌, length}
 use Rattle.tetra_bits.specs.declared.reading.Mark.{Mark}
 use Rattle.tetra_bits.specs.declared.reading.Mark.TheVariants.{Good, Unchecked}
 use Rattle.tetra_channels.specs.Channels.{message_of}

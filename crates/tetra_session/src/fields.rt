@@ -31,8 +31,8 @@ pub fn letter_by(slot: SlotUse, soft: &[i16; 510]) -> Letter
     }
 }
 
-#[tactic(auto, unfolding(crate::specs::Heard::full_values))]
 /// The values of SCH/F, in type-3 order.
+#[tactic(auto, unfolding(crate::specs::Heard::full_values))]
 fn full_values(key: &Key, soft: &[i16; 510]) -> Soft
     requires { AllSoft soft.now }
     ensures values { result ≡ full_values key.now soft.now }
@@ -42,8 +42,8 @@ fn full_values(key: &Key, soft: &[i16; 510]) -> Soft
     Full::front(&word_values(soft), key)
 }
 
-#[tactic(auto, unfolding(crate::specs::Heard::raw_values))]
 /// The values of unprotected data, after the key.
+#[tactic(auto, unfolding(crate::specs::Heard::raw_values))]
 fn raw_values(key: &Key, soft: &[i16; 510]) -> Soft
     requires { AllSoft soft.now }
     ensures values { result ≡ raw_values key.now soft.now }

@@ -11,7 +11,8 @@ use arrayvec::ArrayVec;
 use tetra_scramble::{Key, key};
 use tetra_settings::{Letter, Settings, SlotReading, slot_use};
 
-/// A receiver of slots. It stands for its settings and for the slots that it was given so far.
+/// A receiver of slots, four timeslots side by side. It stands for its settings and for the slots that it was given so
+/// far. This project's own.
 #[derive(Drop)]
 pub struct Receiver {
     settings: Settings,
@@ -41,7 +42,8 @@ impl Receiver {
         }
     }
 
-    /// The letter of the slot whose turn it is, as a byte. This changes nothing.
+    /// The letter of the slot whose turn it is, as a byte, by the values of its 510 positions, each from -127 to 127. This
+    /// changes nothing.
     pub fn letter(&self, soft: &[i16; 510]) -> u8
         requires { AllSoft soft.now }
         ensures { result ≡ slot_letter self.now.settings self.now.turn soft.now }
@@ -57,8 +59,8 @@ impl Receiver {
         letter_by(slot_use(&self.settings, self.turn), soft)
     }
 
-    /// The letter of the slot whose turn it is, and the soft values of its fields. Each call is one slot; there are at
-    /// most 16,777,216.
+    /// The letter of the slot whose turn it is, and the soft values of its fields, from the values of its 510 positions,
+    /// each from -127 to 127. The letter is a built one. Each call is one slot; there are at most 16,777,216.
     pub fn front(&mut self, soft: &[i16; 510]) -> Front
         requires few { self.old.turn < 16777216 }
         requires soft { AllSoft soft.now }
@@ -95,7 +97,9 @@ impl Receiver {
         hear_field(letter, &self.key, soft, &mut front.fields[0]);
     }
 
-    /// The reading of the slot whose turn it is. Each call is one slot; there are at most 16,777,216.
+    /// The reading of the slot whose turn it is, from the values of its 510 positions, each from -127 to 127: of each
+    /// field the first-least message with its metric and its mark. The letter is a built one. Each call is one slot;
+    /// there are at most 16,777,216.
     pub fn slot(&mut self, soft: &[i16; 510]) -> SlotReading
         requires few { self.old.turn < 16777216 }
         requires soft { AllSoft soft.now }

@@ -1,6 +1,6 @@
 -- How great costs can be.
 use Prim.Native.Nat.{zero, suc}
-use Rattle.std.proofs.Common.{◌≡◌, ℕ, ◌+◌, ◌-◌, ◌*◌, ◌^◌, ◌<◌, ◌≤◌, inl, inr, Bool, true, false, List, [], ◌∷◌, length, get_or, ℤ, pos, negsuc, arith, refl, sym, ap, ◌∙◌}
+use Rattle.std.proofs.Common.{◌≡◌, ℕ, ◌+◌, ◌-◌, ◌*◌, ◌^◌, ◌<◌, ◌≤◌, inl, inr, Bool, true, false, List, [], ◌∷◌, length, get_or, ℤ, pos, negsuc, arith}
 use Rattle.std.proofs.lemmas.Bool.{cases_lt}
 use Rattle.std.proofs.lemmas.Int.{ints}
 use Rattle.std.proofs.lemmas.List.{get_or_past}
@@ -11,7 +11,7 @@ use Rattle.tetra_bits.specs.Sums.{sum_below}
 use Rattle.tetra_mother.specs.Mother.{edge, next_state}
 use Rattle.tetra_puncture.specs.Plan.{CodePlan, HasSizes, word}
 use Rattle.tetra_puncture.specs.Best.{message_metric}
-use Rattle.tetra_puncture.specs.Trellis.{output_cost, step_cost, cost_from, IsContinuation, IsCostToGo}
+use Rattle.tetra_puncture.specs.Trellis.{output_cost, step_cost, cost_from, IsCostToGo}
 
 pub cost_small : (v : ℤ) (b : Bool) → IsSoft v → cost v b ≤ 127
 unfolding cost

@@ -9,3 +9,7 @@ pub mod Certificates
 pub mod Bounds
 pub mod Rows
 pub mod Checking
+pub mod ToGo
+pub mod Sent
+pub mod Shapes
+pub mod Undamaged

@@ -1,14 +1,13 @@
 -- The metric of a message over its sent places is the cost of its path over the spread values.
 use Prim.Native.Nat.{zero, suc}
-use Rattle.std.proofs.Common.{◌≡◌, ◌≢◌, ℕ, ◌+◌, ◌-◌, ◌*◌, ◌<◌, ◌≤◌, ◌⊎◌, inl, inr, Bool, true, false, List, [], ◌∷◌, length, get_or, ℤ, pos, arith, refl, sym, ◌∙◌, ap}
-use Rattle.std.proofs.lemmas.Bool.{cases_eq, cases_lt}
+use Rattle.std.proofs.Common.{◌≡◌, ◌≢◌, ℕ, ◌+◌, ◌-◌, ◌*◌, ◌<◌, ◌≤◌, inl, inr, Bool, true, false, List, [], ◌∷◌, length, ℤ, pos, arith, refl, sym, ◌∙◌, ap}
+use Rattle.std.proofs.lemmas.Bool.{cases_eq}
 use Rattle.tetra_bits.specs.Cost.{cost, cost_at, metric}
-use Rattle.tetra_bits.specs.Numbered.{get_or-numbered}
 use Rattle.tetra_bits.specs.Order.{bit_at}
 use Rattle.tetra_bits.specs.Soft.{value_at}
 use Rattle.tetra_bits.specs.Sums.{sum_below}
 use Rattle.tetra_bits.proofs.Signs.{sum_same}
-use Rattle.tetra_mother.specs.Mother.{edge, output, mother_bit, next_state, state_before}
+use Rattle.tetra_mother.specs.Mother.{edge, mother_bit, next_state, state_before}
 use Rattle.tetra_mother.specs.States.{edge_is_output}
 use Rattle.tetra_puncture.specs.Plan.{CodePlan, PlacesRise, PlacesLie, IsMessage, tailed, sent_bit, word}
 use Rattle.tetra_puncture.specs.Best.{message_metric}
@@ -24,7 +23,7 @@ unfolding sum_below
 sum_more n f = let e : n + 1 ≡ suc n = omega arith in rw e refl
 
 -- a sum of two parts
-sum_parts : (a b : ℕ) (f : ℕ → ℕ) → sum_below (a + b) f ≡ sum_below a f + sum_below b (λ k. f (a + k))
+pub sum_parts : (a b : ℕ) (f : ℕ → ℕ) → sum_below (a + b) f ≡ sum_below a f + sum_below b (λ k. f (a + k))
 unfolding sum_below
 sum_parts a zero f = let e : a + 0 ≡ a = omega arith in rw e (omega arith)
 sum_parts a (suc b) f =
@@ -44,7 +43,7 @@ sum_rows outs (suc n) f =
 
 -- a sum of terms that are 0 but at the places of the first n sent bits
 module _ (p : CodePlan) (rise : PlacesRise p) (lie : PlacesLie p) (f : ℕ → ℕ) where
-  sum_placed : (m n : ℕ) → n ≤ p.sent → ((j : ℕ) → 1 ≤ j → j ≤ n → p.place j ≤ m) →
+  pub sum_placed : (m n : ℕ) → n ≤ p.sent → ((j : ℕ) → 1 ≤ j → j ≤ n → p.place j ≤ m) →
       ((v : ℕ) → v < m → ((j : ℕ) → 1 ≤ j → j ≤ n → p.place j ≢ v + 1) → f v ≡ 0) →
       sum_below m f ≡ sum_below n (λ k. f (p.place (k + 1) - 1))
   unfolding sum_below

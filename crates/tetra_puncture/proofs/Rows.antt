@@ -1,6 +1,5 @@
 -- Rows made one from the next hold the costs to go, and the message that is traced in them meets the five rules.
-use Prim.Native.Nat.{zero, suc}
-use Rattle.std.proofs.Common.{◌≡◌, ◌≢◌, ℕ, ◌+◌, ◌-◌, ◌*◌, ◌<◌, ◌≤◌, ◌⊎◌, inl, inr, Bool, true, false, not, cond, eqb, ltb, min, List, [], ◌∷◌, ◌++◌, length, length-append, get_or, set, ℤ, arith, refl, sym, ◌∙◌, ap, subst, get_or-set_other, get_or-set_same}
+use Rattle.std.proofs.Common.{◌≡◌, ◌≢◌, ℕ, ◌+◌, ◌-◌, ◌*◌, ◌<◌, ◌≤◌, inl, inr, Bool, true, false, not, eqb, ltb, min, List, [], ◌∷◌, ◌++◌, length, length-append, get_or, set, ℤ, arith, refl, sym, ◌∙◌, ap, subst, get_or-set_other, get_or-set_same}
 use Rattle.std.proofs.Math.ListN.{length-set}
 use Rattle.std.proofs.lemmas.Bool.{cases_lt}
 use Rattle.std.proofs.lemmas.Bool.Decides.{nat_tests}
@@ -13,12 +12,12 @@ use Rattle.tetra_mother.specs.States.{next_small}
 use Rattle.tetra_puncture.specs.Plan.{CodePlan, IsMessage}
 use Rattle.tetra_puncture.specs.Decoding.{least_branch, IsBackward, IsTraced}
 use Rattle.tetra_puncture.specs.Rules.{Holds, IsAccepted}
-use Rattle.tetra_puncture.specs.Trellis.{step_cost, IsAllowed, IsCostToGo, AllCostsToGo, over_branch, bit_taken, state_passed}
+use Rattle.tetra_puncture.specs.Trellis.{step_cost, IsAllowed, AllCostsToGo, over_branch, bit_taken, state_passed}
 use Rattle.tetra_puncture.specs.declared.rule.Rule.{Rule}
 use Rattle.tetra_puncture.specs.declared.rule.Rule.TheVariants.{End, Edge0, Edge1, Path, Tie}
 use Rattle.tetra_puncture.proofs.Bounds.{step_cost_small}
-use Rattle.tetra_puncture.proofs.Potentials.{IsPotential, IsAttained, entry_is_cost_to_go}
-use Rattle.tetra_puncture.proofs.Steps.{bit_taken_is, bit_taken_tail, state_passed_first, state_passed_more, state_passed_small, state_passed_same}
+use Rattle.tetra_puncture.proofs.Potentials.{IsPotential, entry_is_cost_to_go}
+use Rattle.tetra_puncture.proofs.Steps.{bit_taken_is, bit_taken_tail, state_passed_first, state_passed_more, state_passed_same}
 
 -- the ways that are allowed before the last four steps, and at them
 pub least_both : (p : CodePlan) (wide : List ℤ) (table : List (List ℕ)) (t s : ℕ) → t + 4 < p.steps →

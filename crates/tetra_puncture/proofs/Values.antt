@@ -1,9 +1,9 @@
 -- The values at the places of the mother word.
 use Prim.Native.Nat.{zero, suc}
-use Rattle.std.proofs.Common.{ℕ, ℤ, pos, ◌+◌, ◌-◌, ◌*◌, ◌<◌, ◌≤◌, ◌≡◌, ◌≢◌, ◌⊎◌, inl, inr, Bool, true, false, List, length, get_or, cond, nat_eq, arith, refl, ap, sym, ◌∙◌}
+use Rattle.std.proofs.Common.{ℕ, ℤ, pos, ◌+◌, ◌-◌, ◌*◌, ◌<◌, ◌≤◌, ◌≡◌, ◌≢◌, ◌⊎◌, inl, inr, true, false, List, length, get_or, nat_eq, arith, refl, ap, sym, ◌∙◌}
 use Rattle.std.proofs.lemmas.Bool.{cases_eq, cases_lt}
 use Rattle.std.proofs.lemmas.Bool.Decides.{nat_tests}
-use Rattle.tetra_bits.specs.Numbered.{numbered, is_numbered, get_or-numbered, length-numbered}
+use Rattle.tetra_bits.specs.Numbered.{is_numbered, get_or-numbered, length-numbered}
 use Rattle.tetra_bits.specs.Soft.{value_at}
 use Rattle.tetra_puncture.specs.Plan.{CodePlan, PlacesRise, PlacesLie}
 use Rattle.tetra_puncture.proofs.Front.{rise_far}

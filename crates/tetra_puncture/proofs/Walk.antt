@@ -1,10 +1,10 @@
 -- The walk along the steps gives the sent word.
-use Rattle.std.proofs.Common.{ℕ, ◌+◌, ◌-◌, ◌*◌, ◌/◌, ◌%◌, ◌<◌, ◌≤◌, ◌≡◌, Bool, false, List, [], ◌∷◌, ◌++◌, length, map, get_or, arith, refl, ap, sym, ◌∙◌, subst}
-use Rattle.std.proofs.lemmas.Nat.{le-div, div_below, mod_below}
+use Rattle.std.proofs.Common.{ℕ, ◌+◌, ◌-◌, ◌/◌, ◌%◌, ◌<◌, ◌≤◌, ◌≡◌, Bool, false, List, get_or, arith, ap, sym, ◌∙◌}
+use Rattle.std.proofs.lemmas.Nat.{le-div, mod_below}
 use Rattle.std.proofs.Math.Nat.{div-mul-le_self}
-use Rattle.tetra_mother.specs.Mother.{output, edge, state_before, bit_back, mother_bit}
+use Rattle.tetra_mother.specs.Mother.{edge, state_before, bit_back, mother_bit}
 use Rattle.tetra_mother.specs.States.{edge_is_output}
-use Rattle.tetra_puncture.specs.Plan.{CodePlan, sent_bit, tailed, HasSizes, PlacesRise, PlacesLie}
+use Rattle.tetra_puncture.specs.Plan.{CodePlan, sent_bit, tailed, PlacesRise}
 
 pub div_le : (a b n : ℕ) → 0 < n → a ≤ b → a / n ≤ b / n
 div_le a b n h l = le-div (a / n) b n h (omega (arith, div-mul-le_self a n))

@@ -1,14 +1,13 @@
 -- Different messages have different words, where the first output of each step is sent.
 use Prim.Native.Nat.{zero, suc}
-use Rattle.std.proofs.Common.{ℕ, ◌+◌, ◌-◌, ◌*◌, ◌/◌, ◌%◌, ◌<◌, ◌≤◌, ◌≡◌, Bool, true, false, not, cond, ◌&&◌, List, [], ◌∷◌, ◌++◌, length, map, get_or, replicate, arith, refl, ap, sym, ◌∙◌, below_more, below_none, lit≤, ◌⊎◌, inl, inr}
+use Rattle.std.proofs.Common.{ℕ, ◌+◌, ◌-◌, ◌*◌, ◌/◌, ◌%◌, ◌<◌, ◌≤◌, ◌≡◌, Bool, true, false, ◌&&◌, List, get_or, replicate, arith, refl, ap, sym, ◌∙◌, lit≤, ◌⊎◌, inl, inr}
 use Rattle.std.proofs.lemmas.List.{ext_get_or, get_or_append_left}
 use Rattle.std.specs.Prelude.{nat_lt}
 use Rattle.std.proofs.lemmas.Bool.{lt-ltb, le-ltb, cases_lt}
-use Rattle.std.proofs.Math.Nat.{mul-div_cancel_left, mul-mod_right}
 use Rattle.std.proofs.lemmas.Nat.{div-mul-add, mod-mul-add}
 use Rattle.tetra_mother.specs.Mother.{output, term, add2, bit_back, sum2, mother_bit}
-use Rattle.tetra_bits.specs.Numbered.{numbered, get_or-numbered}
-use Rattle.tetra_puncture.specs.Plan.{CodePlan, sent_bit, word, tailed, IsMessage, WordsDiffer}
+use Rattle.tetra_bits.specs.Numbered.{get_or-numbered}
+use Rattle.tetra_puncture.specs.Plan.{CodePlan, sent_bit, word, tailed, WordsDiffer}
 
 cancel_left : (x y t u : Bool) → x ≡ y → add2 x t ≡ add2 y u → t ≡ u
 cancel_left true true true true e h = refl

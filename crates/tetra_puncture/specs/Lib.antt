@@ -8,3 +8,4 @@ pub mod Trellis
 pub mod Decoding
 pub mod Rules
 pub mod Certified
+pub mod ToGo

@@ -1,5 +1,5 @@
 -- A punctured code as plain data (EN 300 392-2 clause 8.2.3).
-use Rattle.std.specs.Prelude.{ℕ, ◌+◌, ◌-◌, ◌*◌, ◌<◌, ◌≤◌, ◌≡◌, Bool, false, List, length, ◌++◌, replicate}
+use Rattle.std.specs.Prelude.{ℕ, ◌+◌, ◌*◌, ◌<◌, ◌≤◌, ◌≡◌, Bool, false, List, length, ◌++◌, replicate}
 use Rattle.tetra_bits.specs.Numbered.{numbered}
 use Rattle.tetra_mother.specs.Mother.{mother_bit}
 

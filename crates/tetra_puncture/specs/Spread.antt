@@ -1,6 +1,6 @@
 -- Soft values at the places of the mother word.
 use Prim.Native.Nat.{zero, suc}
-use Rattle.std.specs.Prelude.{ℕ, ℤ, pos, ◌-◌, ◌*◌, ◌≤◌, ◌<◌, ◌≡◌, ◌≢◌, cond, nat_eq, List, length}
+use Rattle.std.specs.Prelude.{ℕ, ℤ, pos, ◌-◌, ◌*◌, ◌≤◌, ◌≡◌, ◌≢◌, cond, nat_eq, List, length}
 use Rattle.tetra_bits.specs.Numbered.{numbered}
 use Rattle.tetra_bits.specs.Soft.{value_at}
 use Rattle.tetra_puncture.specs.Plan.{CodePlan}

@@ -1,9 +1,9 @@
 -- The laws of the plans.
 use Prim.Native.Nat.{zero, suc}
-use Rattle.std.proofs.Common.{ℕ, ◌+◌, ◌-◌, ◌*◌, ◌/◌, ◌%◌, ◌<◌, ◌≤◌, ◌≡◌, ◌⊎◌, inl, inr, List, [], ◌∷◌, slice_index, arith, refl, lit≤}
+use Rattle.std.proofs.Common.{ℕ, ◌+◌, ◌-◌, ◌*◌, ◌/◌, ◌%◌, ◌<◌, ◌≡◌, ◌⊎◌, inl, inr, [], ◌∷◌, slice_index, arith, refl, lit≤}
 use Rattle.tetra_puncture.specs.Differ.{FirstSent, words_differ}
-use Rattle.tetra_puncture.specs.Plan.{WordsDiffer, HasSizes, PlacesRise, PlacesLie, CodePlan}
-use Rattle.tetra_puncture.specs.Places.{two_thirds, IsTwoThirds, two_thirds_place}
+use Rattle.tetra_puncture.specs.Plan.{WordsDiffer, HasSizes, PlacesRise, PlacesLie}
+use Rattle.tetra_puncture.specs.Places.{two_thirds, IsTwoThirds}
 
 -- the pattern at a rest modulo 3
 pub at_rest : (r : ℕ) → r < 3 → ((r ≡ 0) × (slice_index (1 ∷ 2 ∷ 5 ∷ []) r ≡ 1)) ⊎ (((r ≡ 1) × (slice_index (1 ∷ 2 ∷ 5 ∷ []) r ≡ 2)) ⊎ ((r ≡ 2) × (slice_index (1 ∷ 2 ∷ 5 ∷ []) r ≡ 5)))

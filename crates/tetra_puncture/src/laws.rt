@@ -1,6 +1,7 @@
 // Laws of the definitions.
 ghost use Rattle.tetra_puncture.specs.Certified.{AcceptedIsCertified, CostToGoIsOne};
 ghost use Rattle.tetra_puncture.specs.Plan.{WordsDiffer};
+ghost use Rattle.tetra_puncture.specs.ToGo.{CostToGoIsFound};
 
 use crate::plan::Plan;
 
@@ -18,4 +19,9 @@ pub fn accepted_is_certified()
 /// There is one cost to go from a state.
 pub fn cost_to_go_is_one()
     ensures { CostToGoIsOne }
+{}
+
+/// The cost to go as a function has the cost to go.
+pub fn cost_to_go_is_found()
+    ensures { CostToGoIsFound }
 {}

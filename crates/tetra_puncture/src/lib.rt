@@ -9,9 +9,42 @@ mod sending;
 mod spreading;
 mod two_thirds;
 
-pub use laws::{accepted_is_certified, cost_to_go_is_one, words_differ};
+pub use laws::{accepted_is_certified, cost_to_go_is_found, cost_to_go_is_one, words_differ};
 pub use plan::Plan;
 pub use rule::Rule;
 pub use sending::keep;
 pub use spreading::spread;
 pub use two_thirds::TwoThirds;
+
+// The clauses say every value. This calls each function once at the smallest plan: a 1 and zeros, whose word is written out,
+// and values at the places that are sent.
+#[cfg(test)]
+mod tests {
+    use super::{TwoThirds, keep, spread};
+    use tetra_bits::{Bits, Soft};
+
+    #[test]
+    fn one_and_zeros(rt: HostRuntime) {
+        let mut message = Bits::new();
+        message.push(true);
+        message.push(false);
+        let word = keep::<TwoThirds<6, 9>>(&message);
+        let expected = [true, true, true, false, true, false, true, true, false];
+        for i in 0..9usize {
+            assert!(rt; word.get(i) == expected[i]);
+        }
+    }
+
+    #[test]
+    fn three_of_eight(rt: HostRuntime) {
+        let mut soft = Soft::new();
+        for _k in 0..9usize {
+            soft.push(7);
+        }
+        let wide = spread::<TwoThirds<6, 9>>(&soft);
+        let expected = [7, 7, 0, 0, 7, 0, 0, 0];
+        for i in 0..8usize {
+            assert!(rt; wide.get(i) == expected[i]);
+        }
+    }
+}

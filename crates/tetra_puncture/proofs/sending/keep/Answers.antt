@@ -1,4 +1,4 @@
-use Rattle.std.proofs.Common.{rules, ◌≡◌, ◌<◌, ◌≤◌, ◌+◌, ◌-◌, ◌/◌, ℕ, length, arith, ap, sym, ◌∙◌, ◌∷◌, [], ◌++◌}
+use Rattle.std.proofs.Common.{rules, ◌≡◌, ◌≤◌, ◌+◌, length, arith, ap, sym, ◌∙◌}
 use Rattle.tetra_bits.specs.Numbered.{numbered, numbered_none, numbered_push, length-numbered}
 use Rattle.tetra_mother.specs.States.{state_first}
 use Rattle.tetra_puncture.specs.Plan.{tailed, sent_bit, word}

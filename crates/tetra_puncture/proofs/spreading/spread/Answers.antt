@@ -1,4 +1,4 @@
-use Rattle.std.proofs.Common.{◌≡◌, ◌+◌, ◌-◌, ◌*◌, ℕ, ◌≤◌, length, pos, arith, ap, sym, ◌∙◌, subst, FitsSigned, w16, rules}
+use Rattle.std.proofs.Common.{◌≡◌, ◌*◌, ℕ, arith, subst, FitsSigned, w16, rules}
 use Rattle.std.proofs.lemmas.Int.{to_z-of_z}
 use Rattle.tetra_puncture.proofs.Front.{IsFront, front_more, spread_from}
 use Rattle.tetra_puncture.proofs.Values.{spread_is_values}

@@ -1,0 +1,3 @@
+pub mod Channels
+pub mod Fields
+pub mod Laws

@@ -1,0 +1,106 @@
+// Coded channels.
+ghost use Rattle.std.specs.Prelude.{◌≡◌, ◌+◌, length};
+ghost use Rattle.tetra_channels.specs.Channels.{IsChannel, type3_bits, type5_bits, front_values};
+ghost use Rattle.tetra_channels.specs.Fields.{coded_reading};
+ghost use Rattle.tetra_channels.specs.Laws.{UndamagedIsRead};
+
+use crate::message::{mark, message};
+use std::marker::PhantomData;
+use tetra_bits::{Bits, Mark, Potentials, Reading, Soft};
+use tetra_interleave::Block;
+use tetra_puncture::{Plan, TwoThirds, keep};
+use tetra_scramble::{Key, flip_bits, flip_soft};
+use tetra_trellis::solve_into;
+
+/// A coded channel: `PAR` parity bits, 16 or none, the plan `P` of its code, which sends `K3` bits, and the block
+/// interleaver (`K3`, `A`) with `A INV mod K3 = 1`. A block has `STEPS - PAR - 4` bits, a list of received values `K3`.
+pub struct Coded<const PAR: usize, const K3: usize, const A: usize, const INV: usize, P> {
+    plan: PhantomData<P>,
+}
+
+/// BSCH: 60 bits, 120 of them sent (EN 300 392-2 clause 8.2.4).
+pub type Bsch = Coded<16, 120, 11, 11, TwoThirds<80, 120>>;
+
+/// SCH/HU: 92 bits, 168 sent.
+pub type Hu = Coded<16, 168, 13, 13, TwoThirds<112, 168>>;
+
+/// SCH/HD, BNCH and STCH: 124 bits, 216 sent.
+pub type Half = Coded<16, 216, 101, 77, TwoThirds<144, 216>>;
+
+/// SCH/F: 268 bits, 432 sent.
+pub type Full = Coded<16, 432, 103, 151, TwoThirds<288, 432>>;
+
+impl<const PAR: usize, const K3: usize, const A: usize, const INV: usize, P: Plan> Coded<
+    PAR,
+    K3,
+    A,
+    INV,
+    P,
+> {
+    /// The type-3 bits of a block: its parity and four tail bits behind it, coded and punctured.
+    pub fn type3(block: &Bits) -> Bits
+        requires channel { IsChannel P.IsSound PAR K3 A INV P.plan }
+        requires size { length block.now + PAR + 4 ≡ P.STEPS }
+        ensures bits { result ≡ type3_bits PAR P.plan block.now }
+        ensures size { length result ≡ K3 }
+    {
+        keep::<P>(&message::<PAR>(block))
+    }
+
+    /// The type-5 bits of a block: its type-3 bits interleaved, and scrambled from key bit 1 on.
+    pub fn encode(block: &Bits, key: &Key) -> Bits
+        requires channel { IsChannel P.IsSound PAR K3 A INV P.plan }
+        requires size { length block.now + PAR + 4 ≡ P.STEPS }
+        ensures bits { result ≡ type5_bits PAR INV P.plan key.now block.now }
+        ensures size { length result ≡ K3 }
+    {
+        let interleaved = Block::<K3, A, INV>::bits_out(&Self::type3(block));
+        flip_bits(&interleaved, key, 1)
+    }
+
+    /// Received type-5 values in the order of type-3 bits: descrambled, and the interleaver undone.
+    pub fn front(soft: &Soft, key: &Key) -> Soft
+        requires channel { IsChannel P.IsSound PAR K3 A INV P.plan }
+        requires size { length soft.now ≡ K3 }
+        ensures values { result ≡ front_values K3 A key.now soft.now }
+        ensures size { length result ≡ K3 }
+    {
+        Block::<K3, A, INV>::soft_back(&flip_soft(soft, key, 1))
+    }
+
+    /// What is read over `K3` values in the order of type-3 bits: the first-least message of the code, its metric, and
+    /// the costs to go. The mark is Good where parity holds on the message, else Bad, and Unchecked where the channel has
+    /// no parity; parity plays no part in the choice.
+    pub fn decode3(soft: &Soft) -> Reading
+        requires channel { IsChannel P.IsSound PAR K3 A INV P.plan }
+        requires size { length soft.now ≡ K3 }
+        ensures { result ≡ coded_reading PAR P.plan soft.now }
+    {
+        let mut reading = Reading {
+            mark: Mark::Unchecked,
+            metric: 0,
+            bits: Bits::new(),
+            potentials: None,
+        };
+        Self::decode3_into(soft, &mut reading);
+        reading
+    }
+
+    /// The same into a reading that is there, whose potentials are filled in place.
+    pub fn decode3_into(soft: &Soft, reading: &mut Reading)
+        requires channel { IsChannel P.IsSound PAR K3 A INV P.plan }
+        requires size { length soft.now ≡ K3 }
+        ensures { reading.new ≡ coded_reading PAR P.plan soft.now }
+    {
+        let potentials = reading.potentials.get_or_insert_with(Potentials::new);
+        reading.metric = solve_into::<P>(soft, &mut reading.bits, potentials);
+        reading.mark = mark::<PAR>(&reading.bits);
+    }
+
+    /// Values that have the signs of the type-5 bits of a block, none of them 0, are read as that block with its parity,
+    /// with metric 0 and, where the channel has parity, Good.
+    pub fn undamaged_is_read()
+        requires { IsChannel P.IsSound PAR K3 A INV P.plan }
+        ensures { UndamagedIsRead PAR A INV P.plan }
+    {}
+}

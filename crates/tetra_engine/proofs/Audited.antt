@@ -1,0 +1,82 @@
+-- Slots with what is claimed for them, at the front of the input.
+use Rattle.std.proofs.Common.{◌≡◌, ℕ, ◌+◌, ◌<◌, ◌≤◌, List, [], ◌∷◌, ◌++◌, length, map, refl, ap, sym, ◌∙◌, arith, length-append, append_assoc, append-nil, true, false, IsTrue, subst, ℤ}
+use Rattle.std.proofs.lemmas.List.{map-append, length-map}
+use Rattle.std.specs.declared.option.Option.{Option}
+use Rattle.std.specs.Io.KnownBytes.{Consumes}
+use Rattle.tetra_settings.specs.declared.types.Settings.{Settings}
+use Rattle.tetra_engine.specs.declared.status.Status.TheVariants.{NotBuilt}
+use Rattle.tetra_engine.specs.declared.refusals.Refusals.{Refusals}
+use Rattle.tetra_engine.specs.declared.temporary.Receiver.{Receiver}
+use Rattle.tetra_engine.specs.declared.temporary.SlotVerdict.{SlotVerdict}
+use Rattle.tetra_engine.specs.declared.temporary.SlotVerdict.TheVariants.{Agrees, Kind, Field}
+use Rattle.tetra_engine.specs.BelowReceiver.{ReceiverStands}
+use Rattle.tetra_engine.specs.BelowReading.{slot_letter, claim_length}
+use Rattle.tetra_engine.specs.Framing.{is_built_slot}
+use Rattle.tetra_engine.specs.Auditing.{Claimed, auditing, slots_of, front_at, refused_by, refused_slots, verdict_at}
+use Rattle.tetra_engine.specs.Refusals.{Counts}
+use Rattle.tetra_engine.specs.Slots.{soft_values}
+use Rattle.tetra_engine.specs.Working.{NoneBegins}
+use Rattle.tetra_engine.proofs.Cuts.{same_front}
+use Rattle.tetra_engine.proofs.Fronts.{unbuilt_front, IsShort}
+use Rattle.tetra_engine.proofs.Framed.{framing_unbuilt, framing_truncated, not_both}
+
+-- the slots so far, and one more
+pub slots_more : (before : List Claimed) (input : Claimed) → slots_of (before ++ input ∷ []) ≡ slots_of before ++ soft_values input.0 ∷ []
+slots_more before input = map-append (λ i. soft_values i.0) before (input ∷ [])
+
+-- the letter that a receiver reads is that of the slot behind those that it stands for
+pub letter_same : (settings : Settings) (before : List Claimed) (receiver : Receiver) (soft : List ℤ) → ReceiverStands settings (slots_of before) receiver
+    → slot_letter receiver.settings receiver.turn soft ≡ slot_letter settings (length before) soft
+letter_same settings before receiver soft stands =
+    ap (λ s. slot_letter s receiver.turn soft) stands.settings_same ∙ ap (λ t. slot_letter settings t soft) (stands.turn ∙ length-map before (λ i. soft_values i.0))
+
+-- the slot of an input that begins the bytes
+slot_of_input : (x : Claimed) (slot u rest : List ℕ) → length x.0 ≡ 510 → length slot ≡ 510 → slot ++ u ≡ (x.0 ++ x.1) ++ rest → x.0 ≡ slot
+slot_of_input x slot u rest sx sy e = same_front 510 x.0 slot (x.1 ++ rest) u sx sy (sym (append_assoc x.0 x.1 rest) ∙ sym e)
+
+-- a slot that is not built, for an audit
+pub unbuilt_claimed : (settings : Settings) (before : List Claimed) (slot : List ℕ) (old new : Option (List ℕ)) → length slot ≡ 510 → is_built_slot settings (length before) slot ≡ false
+    → Consumes old new slot → NoneBegins (auditing settings) before old NotBuilt
+unbuilt_claimed settings before slot old new size unbuilt came =
+    unbuilt_front (auditing settings) before slot old new
+    (λ u x rest fits e. not_both settings (length before) slot x.0 (slot_of_input x slot u rest fits.0 size e) unbuilt fits.1)
+    (λ u. framing_unbuilt settings (length before) slot u size unbuilt) (omega arith) came
+
+-- a slot behind which bytes of the record are missing
+pub short_claim : (settings : Settings) (before : List Claimed) (slot : List ℕ) (len : ℕ) → length slot ≡ 510 → is_built_slot settings (length before) slot ≡ true
+    → len ≡ claim_length (front_at settings before slot) → IsShort (auditing settings) before slot len
+short_claim settings before slot len size built is = record {
+  none = λ u few x rest fits e.
+      let same = slot_of_input x slot u rest fits.0 size e in
+      let long : length x.1 ≡ len = fits.2 ∙ ap (λ s. claim_length (front_at settings before s)) same ∙ sym is in
+      absurd (omega (arith, ap length e, length-append slot u, length-append (x.0 ++ x.1) rest, length-append x.0 x.1, fits.0));
+  stops = λ u few. framing_truncated settings (length before) slot u size built;
+}
+
+-- one slot more that is refused or not
+pub refused_more : (settings : Settings) (before inputs : List Claimed) (input : Claimed)
+    → refused_slots settings before (inputs ++ input ∷ []) ≡ refused_slots settings before inputs ++ refused_by (length (before ++ inputs)) (verdict_at settings (before ++ inputs) input)
+refused_more settings before [] input =
+    append-nil (refused_by (length before) (verdict_at settings before input)) ∙ ap (λ b. refused_by (length b) (verdict_at settings b input)) (sym (append-nil before))
+refused_more settings before (x ∷ xs) input =
+    ap (λ l. refused_by (length before) (verdict_at settings before x) ++ l) (refused_more settings (before ++ x ∷ []) xs input)
+    ∙ sym (append_assoc (refused_by (length before) (verdict_at settings before x)) (refused_slots settings (before ++ x ∷ []) xs) _)
+    ∙ ap (λ b. (refused_by (length before) (verdict_at settings before x) ++ refused_slots settings (before ++ x ∷ []) xs) ++ refused_by (length b) (verdict_at settings b input)) (append_assoc before (x ∷ []) xs)
+
+one_at_most : (slot : ℕ) (verdict : SlotVerdict) → length (refused_by slot verdict) ≤ 1
+one_at_most slot Agrees = omega arith
+one_at_most slot Kind = omega arith
+one_at_most slot (Field index why) = omega arith
+
+-- no more are refused than there are
+pub refused_few : (settings : Settings) (before inputs : List Claimed) → length (refused_slots settings before inputs) ≤ length inputs
+refused_few settings before [] = omega arith
+refused_few settings before (x ∷ xs) =
+    let one = one_at_most (length before) (verdict_at settings before x) in
+    let more = refused_few settings (before ++ x ∷ []) xs in
+    omega (arith, length-append (refused_by (length before) (verdict_at settings before x)) (refused_slots settings (before ++ x ∷ []) xs), one, more)
+
+-- the count is the number of the slots
+pub counts_number : (r : Refusals) (slots : List ℕ) → Counts r slots → r.count ≡ length slots
+counts_number r [] counts = counts
+counts_number r (slot ∷ slots) counts = counts.1

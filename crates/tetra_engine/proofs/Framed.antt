@@ -1,0 +1,62 @@
+-- Slots of 510 bytes at the front of the input.
+use Rattle.std.proofs.Common.{◌≡◌, ℕ, ◌<◌, ◌≤◌, List, [], ◌∷◌, ◌++◌, length, take, map, refl, ap, sym, ◌∙◌, arith, length-append, append_assoc, Bool, true, false, IsTrue, nat_lt, subst, ℤ}
+use Rattle.std.proofs.Math.Seq.{take-append_seam}
+use Rattle.std.proofs.lemmas.List.{map-append, length-map}
+use Rattle.std.proofs.lemmas.Grind.{common_steps}
+use Rattle.std.specs.declared.option.Option.{Option}
+use Rattle.std.specs.Io.KnownBytes.{Consumes}
+use Rattle.tetra_settings.specs.declared.types.Settings.{Settings}
+use Rattle.tetra_engine.specs.declared.status.Status.TheVariants.{Input, NotBuilt}
+use Rattle.tetra_engine.specs.declared.temporary.RecordFault.TheVariants.{Truncated}
+use Rattle.tetra_engine.specs.declared.temporary.Receiver.{Receiver}
+use Rattle.tetra_engine.specs.BelowReceiver.{ReceiverStands}
+use Rattle.tetra_engine.specs.BelowReading.{slot_letter}
+use Rattle.tetra_engine.specs.Framing.{is_built_slot, framing_stop}
+use Rattle.tetra_engine.specs.Decoding.{decoding}
+use Rattle.tetra_engine.specs.Slots.{soft_values}
+use Rattle.tetra_engine.specs.Working.{NoneBegins}
+use Rattle.tetra_engine.proofs.Cuts.{same_front}
+use Rattle.tetra_engine.proofs.Fronts.{unbuilt_front}
+
+-- the slots so far, and one more
+pub heard_more : (before : List (List ℕ)) (slot : List ℕ) → map soft_values (before ++ slot ∷ []) ≡ map soft_values before ++ soft_values slot ∷ []
+heard_more before slot = map-append soft_values before (slot ∷ [])
+
+not_below : (a b : ℕ) → b ≤ a → nat_lt a b ≡ false
+not_below a b e = grind (arith, common_steps)
+
+-- as many bytes as a front has are the front
+pub take_front : (n : ℕ) (front u : List ℕ) → length front ≡ n → take n (front ++ u) ≡ front
+take_front n front u size = ap (λ m. take m (front ++ u)) (sym size) ∙ take-append_seam front u
+
+whole_slot : (slot u : List ℕ) → length slot ≡ 510 → nat_lt (length (slot ++ u)) 510 ≡ false
+whole_slot slot u size = not_below (length (slot ++ u)) 510 (omega (arith, length-append slot u))
+
+-- a slot whose letter is not built stops a run
+pub framing_unbuilt : (settings : Settings) (n : ℕ) (slot u : List ℕ) → length slot ≡ 510 → is_built_slot settings n slot ≡ false → NotBuilt ≡ framing_stop settings n (slot ++ u)
+framing_unbuilt settings n slot u size unbuilt = rw (whole_slot slot u size) (rw (take_front 510 slot u size) (rw unbuilt refl))
+
+-- and one that lacks what has to stand behind it
+pub framing_truncated : (settings : Settings) (n : ℕ) (slot u : List ℕ) → length slot ≡ 510 → is_built_slot settings n slot ≡ true → Input n Truncated ≡ framing_stop settings n (slot ++ u)
+framing_truncated settings n slot u size built = rw (whole_slot slot u size) (rw (take_front 510 slot u size) (rw built refl))
+
+-- a slot is no built one and one that is not
+pub not_both : (settings : Settings) (n : ℕ) (slot other : List ℕ) → other ≡ slot → is_built_slot settings n slot ≡ false → IsTrue (is_built_slot settings n other) → ⊥
+not_both settings n slot other same unbuilt built =
+    let is : is_built_slot settings n other ≡ false = ap (is_built_slot settings n) same ∙ unbuilt in
+    let two : false ≡ true = sym is ∙ built in
+    cc two
+
+-- a slot that is not built, for decoding
+pub unbuilt_slot : (settings : Settings) (before : List (List ℕ)) (slot : List ℕ) (old new : Option (List ℕ)) → length slot ≡ 510 → is_built_slot settings (length before) slot ≡ false
+    → Consumes old new slot → NoneBegins (decoding settings) before old NotBuilt
+unbuilt_slot settings before slot old new size unbuilt came =
+    unbuilt_front (decoding settings) before slot old new
+    (λ u x rest fits e. not_both settings (length before) slot x (same_front 510 x slot rest u fits.0 size (sym e)) unbuilt fits.1)
+    (λ u. framing_unbuilt settings (length before) slot u size unbuilt) (omega arith) came
+
+-- the letter that a receiver reads is that of the slot behind those that it stands for
+pub letter_same : (settings : Settings) (before : List (List ℕ)) (receiver : Receiver) (soft : List ℤ) → ReceiverStands settings (map soft_values before) receiver
+    → slot_letter receiver.settings receiver.turn soft ≡ slot_letter settings (length before) soft
+letter_same settings before receiver soft stands =
+    ap (λ s. slot_letter s receiver.turn soft) stands.settings_same ∙ ap (λ t. slot_letter settings t soft) (stands.turn ∙ length-map before soft_values)

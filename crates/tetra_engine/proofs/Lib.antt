@@ -1,0 +1,5 @@
+pub mod Runs
+pub mod Cuts
+pub mod Fronts
+pub mod Framed
+pub mod Audited

@@ -1,0 +1,240 @@
+-- How what was read and written goes on and ends, over any shape.
+use Rattle.std.proofs.Common.{◌≡◌, ◌≢◌, ◌⊎◌, ℕ, ◌+◌, ◌<◌, ◌≤◌, List, [], ◌∷◌, ◌++◌, length, take, refl, ap, sym, ◌∙◌, inl, inr, arith, length-append, append_assoc, append-nil, None, Some, subst, IfSome, ◌==◌, true, false, Result, Ok, Err, OnOk, OnErr, MatchBool}
+use Rattle.std.specs.Result.{is_err}
+use Rattle.std.proofs.lemmas.Grind.{common_steps}
+use Rattle.std.specs.declared.option.Option.{Option}
+use Rattle.std.specs.Io.KnownBytes.{Consumes, Appends, IsAtEnd}
+use Rattle.std.proofs.KnownBytes.{Consumes-trans, Appends-trans, Consumes-nil, Appends-nil}
+use Rattle.tetra_io.specs.Streams.{KeepsOrHides}
+use Rattle.tetra_io.specs.Filling.{TakesFewer, AddsFront}
+use Rattle.tetra_engine.specs.declared.status.End.{End}
+use Rattle.tetra_engine.specs.declared.status.Status.{Status}
+use Rattle.tetra_engine.specs.declared.status.Status.TheVariants.{Done, Refused, Words, TooLong, Input, Read, Write, NotBuilt}
+use Rattle.tetra_engine.specs.declared.temporary.RecordFault.TheVariants.{Truncated}
+use Rattle.tetra_engine.specs.Shapes.{Shape, AreInputs, spellings, outputs, NoInput}
+use Rattle.tetra_engine.specs.Outcomes.{EndsBy, TookBefore, IsEnd, Closes, Outcome, IsPart, ReadFront, WriteFront, Came, Grows, IsFrontOfNext, ToldBoth}
+use Rattle.tetra_engine.specs.Working.{Ran, TakesPart, NoneBegins}
+
+-- one input more
+pub spellings-push : {X : Type 0} (shape : Shape X) (xs : List X) (x : X) → spellings shape (xs ++ x ∷ []) ≡ spellings shape xs ++ shape.spelling x
+spellings-push shape [] x = append-nil (shape.spelling x)
+spellings-push shape (y ∷ ys) x = ap (λ l. shape.spelling y ++ l) (spellings-push shape ys x) ∙ sym (append_assoc (shape.spelling y) (spellings shape ys) (shape.spelling x))
+
+pub AreInputs-push : {X : Type 0} (shape : Shape X) (before xs : List X) (x : X) → AreInputs shape before xs → shape.Fits (before ++ xs) x → AreInputs shape before (xs ++ x ∷ [])
+AreInputs-push shape before [] x each fits = (subst (λ k. shape.Fits k x) (append-nil before) fits, tt)
+AreInputs-push shape before (y ∷ ys) x each fits =
+    (each.0, AreInputs-push shape (before ++ y ∷ []) ys x each.1 (subst (λ k. shape.Fits k x) (sym (append_assoc before (y ∷ []) ys)) fits))
+
+pub outputs-push : {X : Type 0} (shape : Shape X) (before xs : List X) (x : X) → outputs shape before (xs ++ x ∷ []) ≡ outputs shape before xs ++ shape.out (before ++ xs) x
+outputs-push shape before [] x = append-nil (shape.out before x) ∙ ap (λ l. shape.out l x) (sym (append-nil before))
+outputs-push shape before (y ∷ ys) x =
+    ap (λ l. shape.out before y ++ l) (outputs-push shape (before ++ y ∷ []) ys x ∙ ap (λ l. outputs shape (before ++ y ∷ []) ys ++ shape.out l x) (append_assoc before (y ∷ []) ys))
+    ∙ sym (append_assoc (shape.out before y) (outputs shape (before ++ y ∷ []) ys) (shape.out (before ++ y ∷ ys) x))
+
+-- one slot more was read and written
+pub ran_on : {X : Type 0} (shape : Shape X) (max n : ℕ) (xs : List X) (x : X) (r0 r1 r2 t0 t1 t2 : Option (List ℕ)) → Ran shape max n xs r0 r1 t0 t1
+    → n < max → shape.Fits xs x → Consumes r1 r2 (shape.spelling x) → Appends t1 t2 (shape.out xs x) → Ran shape max (n + 1) (xs ++ x ∷ []) r0 r2 t0 t2
+ran_on shape max n xs x r0 r1 r2 t0 t1 t2 ran below fits more added = record {
+  slots_is = omega (arith, length-append xs (x ∷ []), ran.slots_is);
+  few = omega (arith, length-append xs (x ∷ []), ran.slots_is);
+  each = AreInputs-push shape [] xs x ran.each fits;
+  came = subst (Consumes r0 r2) (sym (spellings-push shape xs x)) (Consumes-trans r0 r1 r2 _ _ ran.came more);
+  wrote = subst (Appends t0 t2) (sym (outputs-push shape [] xs x)) (Appends-trans t0 t1 t2 _ _ ran.wrote added);
+}
+
+-- nothing was read or written
+pub ran_none : {X : Type 0} (shape : Shape X) (max : ℕ) (r t : Option (List ℕ)) → Ran shape max 0 [] r r t t
+ran_none shape max r t = record { slots_is = refl; few = omega arith; each = tt; came = Consumes-nil r; wrote = Appends-nil t }
+
+-- no bytes begin no input
+no_input_in_part : {X : Type 0} (shape : Shape X) (xs : List X) (p : List ℕ) → ((before : List X) (x : X) → shape.Fits before x → 0 < length (shape.spelling x)) → IsPart shape xs p → NoInput shape xs p
+no_input_in_part shape xs p some (inl none) x rest fits e = absurd (omega (arith, ap length e, ap length none, length-append (shape.spelling x) rest, some xs x fits))
+no_input_in_part shape xs p some (inr why) x rest fits e = why.0 x rest fits e
+
+-- a read that fails behind the last slot took nothing
+ended_part : {X : Type 0} (shape : Shape X) (max : ℕ) (xs : List X) (m p r : List ℕ) → (length xs < max) ⊎ TakesFewer (Some m) (Some r) 1 → m ≡ p ++ r
+    → IsPart shape xs p → (p ≡ []) ⊎ ((length xs < max) × shape.Stops xs p (Input (length xs) Truncated))
+ended_part shape max xs m p r few split (inl none) = inl none
+ended_part shape max xs m p r (inl below) split (inr why) = inr (below, why.1)
+ended_part shape max xs m [] r (inr fewer) split (inr why) = inl refl
+ended_part shape max xs m (a ∷ p) r (inr fewer) split (inr why) =
+    let (bs, is, short) = fewer in absurd (omega (arith, ap length is, ap length split, length-append bs r, length-append (a ∷ p) r))
+
+-- what a failed read leaves
+pub read_front : {X : Type 0} (shape : Shape X) (max n : ℕ) (xs : List X) (r0 r1 r2 t0 t1 : Option (List ℕ))
+    → ((before : List X) (x : X) → shape.Fits before x → 0 < length (shape.spelling x)) → Ran shape max n xs r0 r1 t0 t1 → (length xs < max) ⊎ TakesFewer r1 r2 1 → TakesPart shape xs r1 r2
+    → Came r0 r2 (ReadFront shape max (Appends t0 t1) (record { status = Read; slots = n }))
+read_front shape max n xs None r1 r2 t0 t1 some ran few part = tt
+read_front shape max n xs (Some b) r1 None t0 t1 some ran few part = tt
+read_front shape max n xs (Some b) None (Some r) t0 t1 some ran few part = absurd ran.came
+read_front shape max n xs (Some b) (Some m) (Some r) t0 t1 some ran few part =
+    let (p, split, why) = part in (
+      spellings shape xs ++ p,
+      ran.came ∙ ap (λ l. spellings shape xs ++ l) split ∙ sym (append_assoc (spellings shape xs) p r),
+      record {
+        xs = xs;
+        part = p;
+        cut = record { whole = refl; each = ran.each; few = ran.few; longest = λ _. no_input_in_part shape xs p some why };
+        ended = ended_part shape max xs m p r few split why;
+        slots = ran.slots_is;
+        output = ran.wrote;
+      },
+    )
+
+-- the front of an output that a failed write took
+front_written : {X : Type 0} (shape : Shape X) (max : ℕ) (xs : List X) (x : X) (r : List ℕ) (t0 t1 t2 : Option (List ℕ)) → length xs < max → shape.Fits xs x
+    → Appends t0 t1 (outputs shape [] xs) → AddsFront t1 t2 (shape.out xs x)
+    → (front : List ℕ) × IsFrontOfNext shape max xs (shape.spelling x ++ r) front × Grows t0 t2 (outputs shape [] xs ++ front)
+front_written shape max xs x r None t1 t2 below fits wrote adds = ([], inl refl, tt)
+front_written shape max xs x r (Some a) t1 None below fits wrote adds = ([], inl refl, tt)
+front_written shape max xs x r (Some a) None (Some c) below fits wrote adds = absurd wrote
+front_written shape max xs x r (Some a) (Some b) (Some c) below fits wrote adds =
+    let (k, short, is) = adds in (
+      take k (shape.out xs x),
+      inr (x, r, k, below, fits, refl, short, refl),
+      is ∙ ap (λ l. l ++ take k (shape.out xs x)) wrote ∙ append_assoc a (outputs shape [] xs) (take k (shape.out xs x)),
+    )
+
+-- what a failed write leaves
+pub write_front : {X : Type 0} (shape : Shape X) (max n : ℕ) (xs : List X) (x : X) (r0 r1 r2 t0 t1 t2 : Option (List ℕ))
+    → Ran shape max n xs r0 r1 t0 t1 → length xs < max → shape.Fits xs x → Consumes r1 r2 (shape.spelling x) → AddsFront t1 t2 (shape.out xs x)
+    → ToldBoth r0 r2 (λ bytes. WriteFront shape max bytes (Grows t0 t2) (record { status = Write; slots = n }))
+write_front shape max n xs x None r1 r2 t0 t1 t2 ran below fits more adds = tt
+write_front shape max n xs x (Some b) r1 None t0 t1 t2 ran below fits more adds = tt
+write_front shape max n xs x (Some b) None (Some r) t0 t1 t2 ran below fits more adds = absurd ran.came
+write_front shape max n xs x (Some b) (Some m) (Some r) t0 t1 t2 ran below fits more adds =
+    let (front, next, grows) = front_written shape max xs x r t0 t1 t2 below fits ran.wrote adds in
+    record {
+      xs = xs;
+      rest = shape.spelling x ++ r;
+      front = front;
+      whole = ran.came ∙ ap (λ l. spellings shape xs ++ l) more;
+      each = ran.each;
+      few = ran.few;
+      next = next;
+      slots = ran.slots_is;
+      output = grows;
+    }
+
+same_number : (a b : ℕ) → a ≡ b → (a == b) ≡ true
+same_number a b e = grind (arith, common_steps)
+
+-- a byte behind the last slot
+pub too_long : {X : Type 0} (shape : Shape X) (max n : ℕ) (xs : List X) (r0 r1 r2 t0 t1 : Option (List ℕ)) (buf : List ℕ)
+    → Ran shape max n xs r0 r1 t0 t1 → max ≤ n → Consumes r1 r2 buf → length buf ≡ 1
+    → IfSome r0 (λ bytes. Outcome shape max bytes (Appends t0 t1) (record { status = TooLong; slots = n }))
+too_long shape max n xs None r1 r2 t0 t1 buf ran all more one = tt
+too_long shape max n xs (Some b) None r2 t0 t1 buf ran all more one = absurd ran.came
+too_long shape max n xs (Some b) (Some m) None t0 t1 buf ran all more one = absurd more
+too_long shape max n xs (Some b) (Some m) (Some r) t0 t1 [] ran all more one = absurd (omega arith)
+too_long shape max n xs (Some b) (Some m) (Some r) t0 t1 (a ∷ c ∷ buf) ran all more one = absurd (omega arith)
+too_long shape max n xs (Some b) (Some m) (Some r) t0 t1 (a ∷ []) ran all more one =
+    let full : length xs ≡ max = omega (arith, ran.few, ran.slots_is) in
+    record {
+      xs = xs;
+      rest = m;
+      cut = record { whole = ran.came; each = ran.each; few = ran.few; longest = λ below. absurd (omega arith) };
+      closes = rw more (rw (same_number (length xs) max full) refl);
+      slots = ran.slots_is;
+      output = ran.wrote;
+    }
+
+-- what an answer of put_all says of the output
+pub all_written : {T E : Type 0} (r : Result T E) (t1 t2 : Option (List ℕ)) (bytes out : List ℕ) → OnOk r (Appends t1 t2 bytes) → is_err r ≡ false → bytes ≡ out → Appends t1 t2 out
+all_written (Ok u) t1 t2 bytes out h ok e = subst (Appends t1 t2) e h
+all_written (Err u) t1 t2 bytes out h ok e = absurd (cc ok)
+
+pub some_written : {T E : Type 0} (r : Result T E) (t1 t2 : Option (List ℕ)) (bytes out : List ℕ) → OnErr r (AddsFront t1 t2 bytes) → is_err r ≡ true → bytes ≡ out → AddsFront t1 t2 out
+some_written (Ok u) t1 t2 bytes out h err e = absurd (cc err)
+some_written (Err u) t1 t2 bytes out h err e = subst (AddsFront t1 t2) e h
+
+-- a read of one byte that fails took nothing
+pub one_byte : {X : Type 0} (shape : Shape X) (xs : List X) (r1 r2 : Option (List ℕ)) → TakesFewer r1 r2 1 → TakesPart shape xs r1 r2
+one_byte shape xs None r2 fewer = tt
+one_byte shape xs (Some m) None fewer = tt
+one_byte shape xs (Some m) (Some r) ([], is, short) = ([], is, inl refl)
+one_byte shape xs (Some m) (Some r) (a ∷ bs, is, short) = absurd (omega arith)
+
+-- what was taken before the flush and after it
+pub grows_on : (t0 t1 t2 : Option (List ℕ)) (bytes : List ℕ) → Appends t0 t1 bytes → KeepsOrHides t1 t2 → Grows t0 t2 (bytes ++ [])
+grows_on None t1 t2 bytes added kept = tt
+grows_on (Some a) t1 None bytes added kept = tt
+grows_on (Some a) None (Some c) bytes added kept = absurd added
+grows_on (Some a) (Some b) (Some c) bytes added kept = kept ∙ added ∙ ap (λ l. a ++ l) (sym (append-nil bytes))
+
+-- a flush that fails behind an end without a fault
+flush_outcome : {X : Type 0} (shape : Shape X) (max : ℕ) (r0 r1 t0 t1 t2 : Option (List ℕ)) (end : End)
+    → IfSome r0 (λ bytes. Outcome shape max bytes (Appends t0 t1) end) → KeepsOrHides t1 t2
+    → ToldBoth r0 r1 (λ bytes. WriteFront shape max bytes (Grows t0 t2) (record { status = Write; slots = end.slots }))
+flush_outcome shape max None r1 t0 t1 t2 end out kept = tt
+flush_outcome shape max (Some b) None t0 t1 t2 end out kept = tt
+flush_outcome shape max (Some b) (Some r) t0 t1 t2 end out kept = record {
+  xs = out.xs;
+  rest = out.rest;
+  front = [];
+  whole = out.cut.whole;
+  each = out.cut.each;
+  few = out.cut.few;
+  next = inl refl;
+  slots = out.slots;
+  output = grows_on t0 t1 t2 _ out.output kept;
+}
+
+-- and behind a failed read
+flush_read : {X : Type 0} (shape : Shape X) (max : ℕ) (r0 r1 t0 t1 t2 : Option (List ℕ)) (end : End)
+    → Came r0 r1 (ReadFront shape max (Appends t0 t1) end) → KeepsOrHides t1 t2
+    → ToldBoth r0 r1 (λ bytes. WriteFront shape max bytes (Grows t0 t2) (record { status = Write; slots = end.slots }))
+flush_read shape max None r1 t0 t1 t2 end out kept = tt
+flush_read shape max (Some b) None t0 t1 t2 end out kept = tt
+flush_read shape max (Some b) (Some r) t0 t1 t2 end (came, split, out) kept = record {
+  xs = out.xs;
+  rest = out.part ++ r;
+  front = [];
+  whole = split ∙ ap (λ l. l ++ r) out.cut.whole ∙ append_assoc (spellings shape out.xs) out.part r;
+  each = out.cut.each;
+  few = out.cut.few;
+  next = inl refl;
+  slots = out.slots;
+  output = grows_on t0 t1 t2 _ out.output kept;
+}
+
+-- a flush that fails
+pub flush_front : {X : Type 0} (status : Status) (shape : Shape X) (max : ℕ) (r0 r1 t0 t1 t2 : Option (List ℕ)) (end : End)
+    → EndsBy status shape max r0 r1 (TookBefore status t0 t1) end → status ≢ Write → KeepsOrHides t1 t2
+    → ToldBoth r0 r1 (λ bytes. WriteFront shape max bytes (Grows t0 t2) (record { status = Write; slots = end.slots }))
+flush_front Done shape max r0 r1 t0 t1 t2 end ends other kept = flush_outcome shape max r0 r1 t0 t1 t2 end ends kept
+flush_front (Refused s c) shape max r0 r1 t0 t1 t2 end ends other kept = flush_outcome shape max r0 r1 t0 t1 t2 end ends kept
+flush_front (Words i w) shape max r0 r1 t0 t1 t2 end ends other kept = flush_outcome shape max r0 r1 t0 t1 t2 end ends kept
+flush_front (Input i w) shape max r0 r1 t0 t1 t2 end ends other kept = flush_outcome shape max r0 r1 t0 t1 t2 end ends kept
+flush_front Read shape max r0 r1 t0 t1 t2 end ends other kept = flush_read shape max r0 r1 t0 t1 t2 end ends kept
+flush_front Write shape max r0 r1 t0 t1 t2 end ends other kept = absurd (other refl)
+flush_front TooLong shape max r0 r1 t0 t1 t2 end ends other kept = flush_outcome shape max r0 r1 t0 t1 t2 end ends kept
+flush_front NotBuilt shape max r0 r1 t0 t1 t2 end ends other kept = flush_outcome shape max r0 r1 t0 t1 t2 end ends kept
+
+-- nothing is left
+done_outcome : {X : Type 0} (shape : Shape X) (max n : ℕ) (xs : List X) (status : Status) (r0 r1 t0 t1 : Option (List ℕ))
+    → ((before : List X) (x : X) → shape.Fits before x → 0 < length (shape.spelling x)) → Ran shape max n xs r0 r1 t0 t1 → IsAtEnd r1 → status ≡ shape.done xs
+    → IfSome r0 (λ bytes. Outcome shape max bytes (Appends t0 t1) (record { status = status; slots = n }))
+done_outcome shape max n xs status None r1 t0 t1 some ran none is = tt
+done_outcome shape max n xs status (Some b) None t0 t1 some ran none is = absurd ran.came
+done_outcome shape max n xs status (Some b) (Some (a ∷ m)) t0 t1 some ran none is = absurd (cc none)
+done_outcome shape max n xs status (Some b) (Some []) t0 t1 some ran none is = record {
+  xs = xs;
+  rest = [];
+  cut = record { whole = ran.came; each = ran.each; few = ran.few; longest = λ _ x rest fits e. absurd (omega (arith, ap length e, length-append (shape.spelling x) rest, some xs x fits)) };
+  closes = is;
+  slots = ran.slots_is;
+  output = ran.wrote;
+}
+
+pub done_front : {X : Type 0} (shape : Shape X) (max n : ℕ) (xs : List X) (status : Status) (r0 r1 r2 t0 t1 : Option (List ℕ))
+    → ((before : List X) (x : X) → shape.Fits before x → 0 < length (shape.spelling x)) → Ran shape max n xs r0 r1 t0 t1 → IsAtEnd r1 → status ≡ shape.done xs → IsEnd status
+    → EndsBy status shape max r0 r2 (TookBefore status t0 t1) (record { status = status; slots = n })
+done_front shape max n xs Done r0 r1 r2 t0 t1 some ran none is quiet = done_outcome shape max n xs Done r0 r1 t0 t1 some ran none is
+done_front shape max n xs (Refused s c) r0 r1 r2 t0 t1 some ran none is quiet = done_outcome shape max n xs (Refused s c) r0 r1 t0 t1 some ran none is
+done_front shape max n xs (Words i w) r0 r1 r2 t0 t1 some ran none is quiet = absurd quiet
+done_front shape max n xs (Input i w) r0 r1 r2 t0 t1 some ran none is quiet = absurd quiet
+done_front shape max n xs Read r0 r1 r2 t0 t1 some ran none is quiet = absurd quiet
+done_front shape max n xs Write r0 r1 r2 t0 t1 some ran none is quiet = absurd quiet
+done_front shape max n xs TooLong r0 r1 r2 t0 t1 some ran none is quiet = absurd quiet
+done_front shape max n xs NotBuilt r0 r1 r2 t0 t1 some ran none is quiet = absurd quiet

@@ -1,0 +1,7 @@
+use Rattle.std.proofs.Common.{rules}
+use Rattle.tetra_engine.proofs.Runs.{flush_front}
+use Rattle.tetra_engine.proofs.work.finish.Goals as goal
+
+pub returns-in-Err-clause-ends : goal.returns-in-Err-clause-ends
+returns-in-Err-clause-ends g c =
+    flush_front c.drive-end.result.status (g.W.Work.shape (g.W.Work.settings c.args.work.now)) c.args.max _ _ _ _ _ c.drive-end.result c.drive-end.ensures.ends (search rules) c.flush.ensures.taken

@@ -1,0 +1,54 @@
+-- What an audit reads and writes: slots of 510 bytes with a reading record behind each, and a line for each.
+use Rattle.std.specs.Prelude.{◌≡◌, ℕ, List, [], ◌∷◌, ◌++◌, length, map, ℤ, IsTrue}
+use Rattle.tetra_settings.specs.declared.types.Settings.{Settings}
+use Rattle.tetra_engine.specs.declared.status.Status.{Status}
+use Rattle.tetra_engine.specs.declared.status.Status.TheVariants.{Done, Refused}
+use Rattle.tetra_engine.specs.declared.temporary.Front.{Front}
+use Rattle.tetra_engine.specs.declared.temporary.SlotVerdict.{SlotVerdict}
+use Rattle.tetra_engine.specs.declared.temporary.SlotVerdict.TheVariants.{Agrees}
+use Rattle.tetra_engine.specs.BelowReading.{front_of, claim_length, verdict_of}
+use Rattle.tetra_engine.specs.Framing.{is_built_slot, framing_stop}
+use Rattle.tetra_engine.specs.Shapes.{Shape}
+use Rattle.tetra_engine.specs.Slots.{soft_values}
+use Rattle.tetra_engine.specs.Verdicts.{verdict_line}
+
+-- a slot and what is claimed to be its reading record
+abbrev pub Claimed : Type 0
+Claimed = List ℕ × List ℕ
+
+-- the soft values of the slots
+abbrev pub slots_of : List Claimed → List (List ℤ)
+slots_of inputs = map (λ input. soft_values input.0) inputs
+
+-- what a receiver behind the slots before takes from a slot
+abbrev pub front_at : Settings → List Claimed → List ℕ → Front
+front_at settings before slot = front_of settings (slots_of before) (soft_values slot)
+
+-- the verdict on a slot behind those before it
+abbrev pub verdict_at : Settings → List Claimed → Claimed → SlotVerdict
+verdict_at settings before input = verdict_of settings.rows (front_at settings before input.0) input.1
+
+-- the number of a slot, where it is refused
+abbrev pub refused_by : ℕ → SlotVerdict → List ℕ
+refused_by slot Agrees = []
+refused_by slot verdict = slot ∷ []
+
+-- the numbers of the slots that are refused
+abbrev pub refused_slots : Settings → List Claimed → List Claimed → List ℕ
+refused_slots settings before [] = []
+refused_slots settings before (input ∷ inputs) = refused_by (length before) (verdict_at settings before input) ++ refused_slots settings (before ++ input ∷ []) inputs
+
+-- the status at the end, by the slots that were refused
+abbrev pub audit_status : List ℕ → Status
+audit_status [] = Done
+audit_status (slot ∷ slots) = Refused slot (length (slot ∷ slots))
+
+-- an input is a slot of 510 bytes whose letter is built, and as many bytes as its reading record has with certificates
+abbrev pub auditing : Settings → Shape Claimed
+auditing settings = record {
+  Fits = λ before input. (length input.0 ≡ 510) × IsTrue (is_built_slot settings (length before) input.0) × (length input.1 ≡ claim_length (front_at settings before input.0));
+  spelling = λ input. input.0 ++ input.1;
+  Stops = λ before bytes status. status ≡ framing_stop settings (length before) bytes;
+  out = λ before input. verdict_line (length before) (verdict_at settings before input);
+  done = λ inputs. audit_status (refused_slots settings [] inputs);
+}

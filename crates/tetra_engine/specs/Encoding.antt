@@ -1,0 +1,28 @@
+-- What encoding reads and writes: block records, and slots of 510 bytes.
+use Rattle.std.specs.Prelude.{◌≡◌, ℕ, List, ◌++◌, length, IsTrue}
+use Rattle.tetra_settings.specs.declared.types.Settings.{Settings}
+use Rattle.tetra_settings.specs.declared.blocks.SlotBlocks.{SlotBlocks}
+use Rattle.tetra_settings.specs.Blocks.{Fits, letter_of}
+use Rattle.tetra_engine.specs.declared.status.Status.{Status}
+use Rattle.tetra_engine.specs.declared.status.Status.TheVariants.{Done, Input, NotBuilt}
+use Rattle.tetra_engine.specs.Below.{record_bytes, record_why, NoBlocks, slot_values}
+use Rattle.tetra_engine.specs.Built.{is_built_letter}
+use Rattle.tetra_engine.specs.Shapes.{Shape}
+use Rattle.tetra_engine.specs.Slots.{slot_bytes}
+
+-- How a run ends where bytes, at least one, begin no built record of slot n. Where they begin with the record of
+-- blocks that fit, its letter is not built.
+abbrev pub EncodingStops : Settings → ℕ → List ℕ → Status → Type 0
+EncodingStops settings n bytes (Input slot why) = (slot ≡ n) × NoBlocks settings n bytes × (why ≡ record_why settings n bytes)
+EncodingStops settings n bytes NotBuilt = (blocks : SlotBlocks) × (rest : List ℕ) × Fits settings n blocks × (bytes ≡ record_bytes blocks ++ rest)
+EncodingStops settings n bytes status = ⊥
+
+-- an input is the record of blocks that fit their slot and whose letter is built
+abbrev pub encoding : Settings → Shape SlotBlocks
+encoding settings = record {
+  Fits = λ before blocks. Fits settings (length before) blocks × IsTrue (is_built_letter (letter_of blocks.body));
+  spelling = record_bytes;
+  Stops = λ before. EncodingStops settings (length before);
+  out = λ before blocks. slot_bytes (slot_values settings before blocks);
+  done = λ _. Done;
+}

@@ -1,0 +1,88 @@
+-- How a run over slots ends, for any command that reads its input slot by slot.
+use Rattle.std.specs.Prelude.{◌≡◌, ◌⊎◌, ℕ, ◌<◌, ◌≤◌, ◌==◌, List, [], ◌∷◌, ◌++◌, length, take, ⊤, None, Some, IfSome, MatchBool}
+use Rattle.std.specs.Io.KnownBytes.{Appends}
+use Rattle.std.specs.declared.option.Option.{Option}
+use Rattle.tetra_engine.specs.declared.status.Status.{Status}
+use Rattle.tetra_engine.specs.declared.status.Status.TheVariants.{Done, Refused, TooLong, Input, Read, Write}
+use Rattle.tetra_engine.specs.declared.temporary.RecordFault.TheVariants.{Truncated}
+use Rattle.tetra_engine.specs.declared.status.End.{End}
+use Rattle.tetra_engine.specs.Shapes.{Shape, AreInputs, spellings, outputs, NoInput, IsCut}
+
+-- how a run ends where the cut has these inputs and these bytes are behind it
+abbrev pub Closes : {X : Type 0} → Shape X → ℕ → List X → List ℕ → Status → Type 0
+Closes shape max xs [] status = status ≡ shape.done xs
+Closes shape max xs (b ∷ rest) status = MatchBool (length xs == max) (status ≡ TooLong) (shape.Stops xs (b ∷ rest) status)
+
+-- The end of a run over these bytes in which no read and no write failed. Took says which bytes the sink took.
+pub record Outcome {X : Type 0} (shape : Shape X) (max : ℕ) (bytes : List ℕ) (Took : List ℕ → Type 0) (end : End) : Type 0 where
+  pub xs : List X
+  pub rest : List ℕ
+  pub cut : IsCut shape max bytes xs rest
+  pub closes : Closes shape max xs rest end.status
+  pub slots : end.slots ≡ length xs
+  pub output : Took (outputs shape [] xs)
+
+-- these bytes are none, or begin no input behind these for want of more
+abbrev pub IsPart : {X : Type 0} → Shape X → List X → List ℕ → Type 0
+IsPart shape before part = (part ≡ []) ⊎ (NoInput shape before part × shape.Stops before part (Input (length before) Truncated))
+
+-- the end of a run in which a read failed, over the bytes that came
+pub record ReadFront {X : Type 0} (shape : Shape X) (max : ℕ) (Took : List ℕ → Type 0) (end : End) (came : List ℕ) : Type 0 where
+  pub xs : List X
+  pub part : List ℕ
+  pub cut : IsCut shape max came xs part
+  pub ended : (part ≡ []) ⊎ ((length xs < max) × shape.Stops xs part (Input (length xs) Truncated))
+  pub slots : end.slots ≡ length xs
+  pub output : Took (outputs shape [] xs)
+
+-- nothing, or a proper front of what is written for the input that came behind xs
+abbrev pub IsFrontOfNext : {X : Type 0} → Shape X → ℕ → List X → List ℕ → List ℕ → Type 0
+IsFrontOfNext {X} shape max xs rest front =
+    (front ≡ []) ⊎ ((x : X) × (more : List ℕ) × (k : ℕ) × (length xs < max) × shape.Fits xs x × (rest ≡ shape.spelling x ++ more) × (k < length (shape.out xs x)) × (front ≡ take k (shape.out xs x)))
+
+-- the end of a run over these bytes in which a write or the flush failed
+pub record WriteFront {X : Type 0} (shape : Shape X) (max : ℕ) (bytes : List ℕ) (Took : List ℕ → Type 0) (end : End) : Type 0 where
+  pub xs : List X
+  pub rest : List ℕ
+  pub front : List ℕ
+  pub whole : bytes ≡ spellings shape xs ++ rest
+  pub each : AreInputs shape [] xs
+  pub few : length xs ≤ max
+  pub next : IsFrontOfNext shape max xs rest front
+  pub slots : end.slots ≡ length xs
+  pub output : Took (outputs shape [] xs ++ front)
+
+-- the bytes that came have P, where the rest is told before and after
+abbrev pub Came : Option (List ℕ) → Option (List ℕ) → (List ℕ → Type 0) → Type 0
+Came None new P = ⊤
+Came (Some bytes) None P = ⊤
+Came (Some bytes) (Some rest) P = (came : List ℕ) × (bytes ≡ came ++ rest) × P came
+
+-- the bytes that are told before have P, where they are told after, too
+abbrev pub ToldBoth : Option (List ℕ) → Option (List ℕ) → (List ℕ → Type 0) → Type 0
+ToldBoth None new P = ⊤
+ToldBoth (Some bytes) None P = ⊤
+ToldBoth (Some bytes) (Some rest) P = P bytes
+
+-- what was taken grew by these bytes, where it is told before and after
+abbrev pub Grows : Option (List ℕ) → Option (List ℕ) → List ℕ → Type 0
+Grows None new bytes = ⊤
+Grows (Some xs) None bytes = ⊤
+Grows (Some xs) (Some ys) bytes = ys ≡ xs ++ bytes
+
+-- how a run over a shape ends, by its status
+abbrev pub EndsBy : {X : Type 0} → Status → Shape X → ℕ → Option (List ℕ) → Option (List ℕ) → (List ℕ → Type 0) → End → Type 0
+EndsBy Read shape max old new Took end = Came old new (ReadFront shape max Took end)
+EndsBy Write shape max old new Took end = ToldBoth old new (λ bytes. WriteFront shape max bytes Took end)
+EndsBy status shape max old new Took end = IfSome old (λ bytes. Outcome shape max bytes Took end)
+
+-- what was taken before the flush: all of it, or after a failed write a front
+abbrev pub TookBefore : Status → Option (List ℕ) → Option (List ℕ) → List ℕ → Type 0
+TookBefore Write old new bytes = Grows old new bytes
+TookBefore status old new bytes = Appends old new bytes
+
+-- a status at the end of the input
+abbrev pub IsEnd : Status → Type 0
+IsEnd Done = Unit {0}
+IsEnd (Refused slot count) = Unit {0}
+IsEnd status = ⊥

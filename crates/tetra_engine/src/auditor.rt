@@ -1,0 +1,101 @@
+// An audit as a work over slots.
+ghost use Rattle.std.specs.Prelude.{◌≡◌, ◌<◌, ◌≤◌, length, List, ℕ, [], take};
+ghost use Rattle.tetra_settings.specs.Validity.{IsValid};
+ghost use Rattle.tetra_engine.specs.Auditing.{auditing, Claimed};
+
+use crate::decoder::is_built_slot;
+use crate::refusals::Refusals;
+use crate::slots::read_values;
+use crate::status::Status;
+use crate::temporary::{Front, Receiver, RecordFault, audit_slot, claim_len};
+use crate::verdicts::line_of_slot;
+use crate::work::{Next, Work};
+use tetra_io::{Filled, Sink, SinkFault, Source, fill, put_all};
+use tetra_settings::Settings;
+
+/// An audit: the slot that was read last with the record that is claimed for it, and what a receiver takes from the
+/// slot.
+#[derive(Drop)]
+pub struct Auditor {
+    settings: Settings,
+    receiver: Receiver,
+    refusals: Refusals,
+    slot: u32,
+    bytes: [u8; 510],
+    soft: [i16; 510],
+    front: Front,
+    claim: [u8; 18_743],
+    len: usize,
+}
+
+impl Auditor {
+    ghost use Rattle.tetra_engine.specs.Auditor.{AuditorStands};
+
+    /// An audit before the first slot.
+    pub fn new(settings: &Settings) -> Auditor
+        requires { IsValid settings.now }
+        ensures stands { AuditorStands result [] }
+        ensures settings { result.settings ≡ settings.now }
+    {
+        Auditor {
+            settings: *settings,
+            receiver: Receiver::new(settings),
+            refusals: Refusals::new(),
+            slot: 0,
+            bytes: [0; 510],
+            soft: [0; 510],
+            front: Front { letter: 0 },
+            claim: [0; 18_743],
+            len: 0,
+        }
+    }
+}
+
+impl Work for Auditor {
+    ghost use Rattle.tetra_engine.specs.Auditor.{AuditorStands, AuditorHolds};
+    ghost use Rattle.std.proofs.Common.{arith, length-append};
+
+    ghost Input = { Claimed };
+
+    ghost shape = { auditing };
+
+    ghost settings = { λ a. a.settings };
+
+    ghost stands = { AuditorStands };
+
+    ghost holds = { AuditorHolds };
+
+    ghost some = { λ settings before x fits. Prim.omega (arith, length-append x.0 x.1) };
+
+    fn read<S: Source>(&mut self, src: &mut S, slot: u32) -> Next {
+        match fill(src, &mut self.bytes) {
+            Filled::Whole => {}
+            Filled::Ended(0) => return Next::End,
+            Filled::Ended(_) => return Next::Bad(RecordFault::Truncated),
+            Filled::Fault => return Next::Fault,
+        }
+        read_values(&self.bytes, &mut self.soft);
+        if !is_built_slot(self.receiver.letter(&self.soft)) {
+            return Next::NotBuilt;
+        }
+        self.slot = slot;
+        self.receiver.read_front(&self.soft, &mut self.front);
+        self.len = claim_len(&self.front);
+        match fill(src, &mut self.claim[..self.len]) {
+            Filled::Whole => Next::Input,
+            Filled::Ended(_) => Next::Bad(RecordFault::Truncated),
+            Filled::Fault => Next::Fault,
+        }
+    }
+
+    fn write<K: Sink>(&mut self, sink: &mut K) -> Result<(), SinkFault> {
+        let verdict = audit_slot(&self.settings.rows, &self.front, &self.claim[..self.len]);
+        self.refusals.judge(self.slot as u64, verdict);
+        let line = line_of_slot(self.slot as u64, verdict);
+        put_all(sink, line.as_str().as_bytes())
+    }
+
+    fn end(&self) -> Status {
+        self.refusals.status()
+    }
+}

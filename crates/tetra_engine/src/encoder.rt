@@ -1,0 +1,92 @@
+// Encoding as a work over slots.
+ghost use Rattle.std.specs.Prelude.{◌≡◌, ◌<◌, ◌≤◌, length, List, Some, []};
+ghost use Rattle.tetra_settings.specs.declared.blocks.SlotBlocks.{SlotBlocks};
+ghost use Rattle.tetra_settings.specs.Validity.{IsValid};
+ghost use Rattle.tetra_engine.specs.Encoding.{encoding};
+ghost use Rattle.tetra_engine.specs.Built.{is_built_letter};
+
+use crate::slots::write_values;
+use crate::status::Status;
+use crate::temporary::{NextFault, Sender, next_record};
+use crate::work::{Next, Work};
+use tetra_io::{Sink, SinkFault, Source, put_all};
+use tetra_settings::{Letter, Settings, SlotBlocks};
+
+/// Encoding: the blocks of the slot that was read last, and the sender that they go to.
+#[derive(Drop)]
+pub struct Encoder {
+    settings: Settings,
+    sender: Sender,
+    blocks: Option<SlotBlocks>,
+    bytes: [u8; 510],
+}
+
+/// Whether slots with this letter are built.
+pub fn is_built(letter: Letter) -> bool
+    ensures { result ≡ is_built_letter letter }
+{
+    matches!(letter, Letter::F | Letter::T)
+}
+
+impl Encoder {
+    ghost use Rattle.tetra_engine.specs.Encoder.{EncoderStands};
+
+    /// An encoder before the first slot.
+    pub fn new(settings: &Settings) -> Encoder
+        requires { IsValid settings.now }
+        ensures stands { EncoderStands result [] }
+        ensures settings { result.settings ≡ settings.now }
+    {
+        Encoder {
+            settings: *settings,
+            sender: Sender::new(settings),
+            blocks: None,
+            bytes: [0; 510],
+        }
+    }
+}
+
+impl Work for Encoder {
+    ghost use Rattle.tetra_engine.specs.Encoder.{EncoderStands, EncoderHolds};
+    ghost use Rattle.std.proofs.Common.{arith};
+
+    ghost Input = { SlotBlocks };
+
+    ghost shape = { encoding };
+
+    ghost settings = { λ e. e.settings };
+
+    ghost stands = { EncoderStands };
+
+    ghost holds = { EncoderHolds };
+
+    ghost some = { λ settings before x fits. Prim.omega arith };
+
+    fn read<S: Source>(&mut self, src: &mut S, slot: u32) -> Next {
+        match next_record(src, &self.settings, slot) {
+            Ok(Some(blocks)) => {
+                if !is_built(blocks.body.letter()) {
+                    return Next::NotBuilt;
+                }
+                self.blocks = Some(blocks);
+                Next::Input
+            }
+            Ok(None) => Next::End,
+            Err(NextFault::Bad(why)) => Next::Bad(why),
+            Err(NextFault::Source(_)) => Next::Fault,
+        }
+    }
+
+    fn write<K: Sink>(&mut self, sink: &mut K) -> Result<(), SinkFault> {
+        let Some(blocks) = &self.blocks else {
+            return Ok(());
+        };
+        let values = self.sender.slot(blocks);
+        write_values(&values, &mut self.bytes);
+        put_all(sink, &self.bytes)
+    }
+
+    fn end(&self) -> Status {
+        Status::Done
+    }
+}

@@ -1,0 +1,24 @@
+//! A run of the program, from the words and the bytes that come in to the bytes that go out.
+#![tactic(auto)]
+
+mod auditor;
+mod decoder;
+mod encoder;
+mod lines;
+mod refusals;
+mod slots;
+mod status;
+mod temporary;
+mod texts;
+mod verdicts;
+mod work;
+
+pub use auditor::Auditor;
+pub use decoder::Decoder;
+pub use encoder::Encoder;
+pub use lines::{exit_code, line};
+pub use slots::{read_values, write_values};
+pub use status::{End, Status};
+pub use temporary::{FieldWhy, RecordFault, Rule, SlotVerdict};
+pub use verdicts::{Line, line_of_slot};
+pub use work::{Next, Work, drive, finish};

@@ -1,0 +1,6 @@
+-- Steps of one size through a list.
+use Rattle.std.specs.Prelude.{ℕ, ◌+◌, ◌-◌, ◌*◌, ◌%◌, List, slice_index_or}
+
+-- the entry that step j comes to from place from on, by places at a time modulo k. Steps count from 1, places from 0
+unfoldable pub step_entry : {X : Type 0} → X → ℕ → ℕ → ℕ → List X → ℕ → X
+step_entry d k from by x j = slice_index_or x ((from + by * (j - 1)) % k) d

@@ -1,0 +1,5 @@
+use Rattle.tetra_parity.proofs.Messages.{tests_parity}
+use Rattle.tetra_parity.proofs.laws.tests_parity.Goals as goal
+
+pub returns : goal.returns
+returns c = tests_parity

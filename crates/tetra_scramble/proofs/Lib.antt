@@ -1,0 +1,4 @@
+pub mod Numbers
+pub mod Window
+pub mod Recurrence
+pub mod Entries

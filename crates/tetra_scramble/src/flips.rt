@@ -1,0 +1,45 @@
+// Scrambling and descrambling.
+ghost use Rattle.std.specs.Prelude.{◌≡◌, ◌≤◌, ◌+◌, ◌-◌, cond, length};
+ghost use Rattle.std.proofs.Math.IntN.{neg_ℤ};
+ghost use Rattle.tetra_bits.specs.Soft.{IsSoft};
+ghost use Rattle.tetra_scramble.specs.Flips.{flipped, turned};
+
+use crate::keys::Key;
+use tetra_bits::{Bits, Soft};
+
+/// The bits of `x` with key bits added, from key bit `from` on, which counts from 1: bit `i` goes with key bit
+/// `from + i - 1`. The key must have these bits (EN 300 392-2 clause 8.2.5).
+pub fn flip_bits(x: &Bits, key: &Key, from: usize) -> Bits
+    requires first { 1 ≤ from }
+    requires last { from - 1 + length x.now ≤ 432 }
+    ensures { result ≡ flipped x.now key.now from }
+{
+    let mut bits = Bits::new();
+    for i in 0..x.len() {
+        bits.push(x.get(i) != key.get(from - 1 + i));
+    }
+    bits
+}
+
+/// The values of `x`, the sign turned where a key bit is 1, from key bit `from` on, which counts from 1: value `i` goes
+/// with key bit `from + i - 1`. The key must have these bits (EN 300 392-2 clause 8.2.5).
+pub fn flip_soft(x: &Soft, key: &Key, from: usize) -> Soft
+    requires first { 1 ≤ from }
+    requires last { from - 1 + length x.now ≤ 432 }
+    ensures { result ≡ turned x.now key.now from }
+{
+    let mut values = Soft::new();
+    for i in 0..x.len() {
+        values.push(turned_by(x.get(i), key.get(from - 1 + i)));
+    }
+    values
+}
+
+/// The value, its sign turned where `bit` is 1.
+fn turned_by(value: i16, bit: bool) -> i16
+    requires { IsSoft value }
+    ensures value { result ≡ cond bit (neg_ℤ value) value }
+    ensures soft { IsSoft result }
+{
+    if bit { -value } else { value }
+}

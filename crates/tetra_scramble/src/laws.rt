@@ -1,0 +1,23 @@
+// Laws of the key.
+ghost use Rattle.tetra_scramble.specs.Key.{OnlyKey, KeyIsKey};
+ghost use Rattle.tetra_scramble.specs.Flips.{FlippedBack, TurnedBack};
+
+/// The key as a function obeys the recurrence.
+pub fn key_is_key()
+    ensures { KeyIsKey }
+{}
+
+/// Only one list obeys it.
+pub fn only_key()
+    ensures { OnlyKey }
+{}
+
+/// Adding the same key bits again gives the bits back.
+pub fn flipped_back()
+    ensures { FlippedBack }
+{}
+
+/// Turning the same signs again gives the values back.
+pub fn turned_back()
+    ensures { TurnedBack }
+{}

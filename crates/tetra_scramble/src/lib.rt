@@ -1,0 +1,17 @@
+//! Scrambling: the key of a colour, and what it does to bits and to soft values (EN 300 392-2 clause 8.2.5).
+#![tactic(auto)]
+
+mod colour;
+mod flips;
+mod keys;
+mod laws;
+mod register;
+
+pub use colour::Colour;
+pub use flips::{flip_bits, flip_soft};
+pub use keys::Key;
+pub use laws::{flipped_back, key_is_key, only_key, turned_back};
+pub use register::{key, zero_key};
+
+#[cfg(test)]
+mod tests;

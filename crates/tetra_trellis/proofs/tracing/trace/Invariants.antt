@@ -1,0 +1,5 @@
+use Rattle.tetra_puncture.proofs.Rows.{TracedTo}
+use Rattle.tetra_trellis.proofs.tracing.trace.Given as goal
+
+abbrev pub invariant-loop-t : goal.invariant-loop-t
+invariant-loop-t g l = TracedTo g.P.Plan.plan l.wide l.potentials l.message l.state l.t

@@ -1,0 +1,64 @@
+// The first-least message, its metric and the costs to go.
+ghost use Rattle.std.specs.Prelude.{◌≡◌, ◌<◌, ◌≤◌, ◌+◌, ◌*◌, ℕ, [], length, slice_index_or};
+ghost use Rattle.tetra_bits.specs.Readings.{entry};
+ghost use Rattle.tetra_puncture.specs.Best.{best_of, message_metric};
+ghost use Rattle.tetra_puncture.specs.Rules.{IsAccepted};
+ghost use Rattle.tetra_puncture.specs.Spread.{spread_values};
+ghost use Rattle.tetra_puncture.specs.Trellis.{AllCostsToGo};
+
+use crate::labels::Labels;
+use crate::rows::fill;
+use crate::tracing::trace;
+use tetra_bits::{Bits, Potentials, Soft};
+use tetra_puncture::{Plan, spread};
+
+/// The first-least message of a plan, its metric, and the potentials that certify it: `STEPS - 4` bits, and a row of
+/// 16 costs to go before each step and one behind the last, `STEPS + 1` rows.
+#[derive(Drop)]
+pub struct Solved {
+    pub message: Bits,
+    pub metric: u32,
+    pub potentials: Potentials,
+}
+
+/// Fills `message` and `potentials` as in `Solved`, and answers the metric. What they held before is gone. `soft` has
+/// `SENT` values.
+pub fn solve_into<P: Plan>(soft: &Soft, message: &mut Bits, potentials: &mut Potentials) -> u32
+    requires sound { P.IsSound }
+    requires size { length soft.now ≡ P.SENT }
+    ensures message { message.new ≡ best_of P.plan soft.now }
+    ensures size { length message.new + 4 ≡ P.STEPS }
+    ensures metric { result ≡ message_metric P.plan soft.now message.new }
+    ensures rows { length potentials.new ≡ P.STEPS + 1 }
+    ensures states { (t : ℕ) → t ≤ P.STEPS → length (slice_index_or potentials.new t []) ≡ 16 }
+    ensures potentials { AllCostsToGo P.plan (spread_values P.plan soft.now) potentials.new }
+    ensures accepted { IsAccepted P.plan (spread_values P.plan soft.now) message.new potentials.new }
+{
+    let wide = spread::<P>(soft);
+    let labels = Labels::of::<P::Code>();
+    fill::<P>(&wide, &labels, potentials);
+    trace::<P>(&wide, &labels, potentials, message);
+    potentials.at(0, 0)
+}
+
+/// The first-least message over `SENT` soft values, its metric, and the costs to go.
+pub fn solve<P: Plan>(soft: &Soft) -> Solved
+    requires sound { P.IsSound }
+    requires size { length soft.now ≡ P.SENT }
+    ensures message { result.message ≡ best_of P.plan soft.now }
+    ensures size { length result.message + 4 ≡ P.STEPS }
+    ensures metric { result.metric ≡ message_metric P.plan soft.now result.message }
+    ensures rows { length result.potentials ≡ P.STEPS + 1 }
+    ensures states { (t : ℕ) → t ≤ P.STEPS → length (slice_index_or result.potentials t []) ≡ 16 }
+    ensures potentials { AllCostsToGo P.plan (spread_values P.plan soft.now) result.potentials }
+    ensures accepted { IsAccepted P.plan (spread_values P.plan soft.now) result.message result.potentials }
+{
+    let mut message = Bits::new();
+    let mut potentials = Potentials::new();
+    let metric = solve_into::<P>(soft, &mut message, &mut potentials);
+    Solved {
+        message,
+        metric,
+        potentials,
+    }
+}

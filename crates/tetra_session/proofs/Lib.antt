@@ -4,3 +4,4 @@ pub mod Fitting
 pub mod OneField
 pub mod Answering
 pub mod ApartLemmas
+pub mod SlotsArriving

@@ -5,3 +5,4 @@ pub mod Time
 pub mod Sent
 pub mod Heard
 pub mod Apart
+pub mod Arrives

@@ -19,9 +19,9 @@ pub one_more : (p : CodePlan) (wide : List ℤ) (t s i : ℕ) (b : Bool) → cos
 unfolding costs_below sum_below output_cost
 one_more p wide t s i b = let e : i + 1 ≡ suc i = omega arith in ap (λ n. sum_below n (output_cost p wide t s b)) e
 
-pub all_costs : (p : CodePlan) (wide : List ℤ) (t s n : ℕ) (b : Bool) → n ≡ p.outs → costs_below p wide t s b n ≡ step_cost p wide t s b
+pub all_costs : (p : CodePlan) (wide : List ℤ) (t s n : ℕ) (b : Bool) (sum : ℕ) → sum ≡ costs_below p wide t s b n → n ≡ p.outs → sum ≡ step_cost p wide t s b
 unfolding costs_below step_cost
-all_costs p wide t s n b e = ap (λ n. sum_below n (output_cost p wide t s b)) e
+all_costs p wide t s n b sum is e = is ∙ ap (λ n. sum_below n (output_cost p wide t s b)) e
 
 -- the cost of the next output comes to the sum
 pub one_cost : (p : CodePlan) (taps : ℕ → ℕ → Bool) (wide : List ℤ) (t s i : ℕ) (b : Bool) (outs : ℕ) (bits : List Bool) (sum paid : ℕ) (value : ℤ)

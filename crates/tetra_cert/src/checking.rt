@@ -1,13 +1,17 @@
 // A message and its table, step by step.
-ghost use Rattle.std.specs.Prelude.{◌≡◌, ◌<◌, ◌≤◌, ◌+◌, length};
+ghost use Rattle.std.specs.Prelude.{◌≡◌, ◌<◌, ◌≤◌, ◌+◌, ◌*◌, true, false, length};
 ghost use Rattle.tetra_puncture.specs.Plan.{IsMessage};
 ghost use Rattle.tetra_puncture.specs.Rules.{IsAccepted};
 ghost use Rattle.tetra_puncture.specs.Spread.{spread_values};
-ghost use Rattle.tetra_cert.specs.Checked.{IsRight, IsSound};
+ghost use Rattle.tetra_puncture.specs.Trellis.{state_passed};
+ghost use Rattle.tetra_cert.specs.Checked.{IsRight, IsSound, IsFirstOfStates};
+ghost use Rattle.tetra_cert.specs.Labels.{HasLabels};
+ghost use Rattle.tetra_cert.specs.Verdicts.{verdict_of};
 
 use crate::rules::{Failing, first_of_states, taken};
+use crate::steps::{Branches, branches_of, step_holds};
 use crate::verdict::Verdict;
-use tetra_bits::{Bits, Potentials, Soft};
+use tetra_bits::{Bits, Potentials, Soft, Wide};
 use tetra_mother::next;
 use tetra_puncture::{Plan, spread};
 
@@ -21,6 +25,8 @@ pub fn check<P: Plan>(soft: &Soft, message: &Bits, potentials: &Potentials) -> V
     requires rows { length potentials.now ≡ P.STEPS + 1 }
     // Accepted exactly where all rules hold, and else the first that does not.
     ensures right { IsRight P.plan soft.now message.now potentials.now result }
+    // The same as a function of the values, the message and the table.
+    ensures value { result ≡ verdict_of P.plan soft.now message.now potentials.now }
     // Accepted shows that the message is first-least, with its metric, whoever made the table.
     ensures sound { IsSound P.plan soft.now message.now potentials.now result }
     // A table that meets the rules is accepted.
@@ -41,4 +47,30 @@ pub fn check<P: Plan>(soft: &Soft, message: &Bits, potentials: &Potentials) -> V
         path = next(path, taken(message, t));
     }
     Verdict::Accepted
+}
+
+/// The first state at which a rule does not hold at step `t`, and the first such rule. A step before the last is first tried at all
+/// states at once, and state by state only where that does not show that all rules hold.
+fn failing_at<P: Plan>(
+    wide: &Wide,
+    message: &Bits,
+    table: &Potentials,
+    t: usize,
+    path: u8,
+    branches: &Branches,
+) -> Option<Failing>
+    requires sound { P.IsSound }
+    requires size { length wide.now ≡ P.plan.outs * P.plan.steps }
+    requires rows { length table.now ≡ P.plan.steps + 1 }
+    requires step { t ≤ P.plan.steps }
+    requires small { path < 16 }
+    requires path { path ≡ state_passed message.now t }
+    requires zero { HasLabels P.plan.taps P.plan.outs false branches.now.zero }
+    requires one { HasLabels P.plan.taps P.plan.outs true branches.now.one }
+    ensures { IsFirstOfStates P.plan wide.now message.now table.now t result }
+{
+    if t < P::STEPS && step_holds::<P>(wide, message, table, t, path, branches) {
+        return None;
+    }
+    first_of_states::<P>(wide, message, table, t, path)
 }

@@ -3,8 +3,10 @@
 #![tactic(auto)]
 
 mod checking;
+mod lanes;
 mod metrics;
 mod rules;
+mod steps;
 mod verdict;
 
 pub use checking::check;

@@ -2,6 +2,7 @@
 ghost use Rattle.std.specs.Prelude.{◌≡◌, ◌+◌, length};
 ghost use Rattle.tetra_channels.specs.Channels.{IsChannel, type3_bits, type5_bits, front_values};
 ghost use Rattle.tetra_channels.specs.Fields.{coded_reading};
+ghost use Rattle.tetra_channels.specs.Laws.{UndamagedIsRead};
 
 use crate::message::{mark, message};
 use std::marker::PhantomData;
@@ -95,4 +96,11 @@ impl<const PAR: usize, const K3: usize, const A: usize, const INV: usize, P: Pla
         reading.metric = solve_into::<P>(soft, &mut reading.bits, potentials);
         reading.mark = mark::<PAR>(&reading.bits);
     }
+
+    /// Values that have the signs of the type-5 bits of a block, none of them 0, are read as that block with its parity,
+    /// with metric 0 and, where the channel has parity, Good.
+    pub fn undamaged_is_read()
+        requires { IsChannel P.IsSound PAR K3 A INV P.plan }
+        ensures { UndamagedIsRead PAR A INV P.plan }
+    {}
 }

@@ -2,6 +2,7 @@
 ghost use Rattle.std.specs.Prelude.{◌≡◌, length};
 ghost use Rattle.tetra_channels.specs.Channels.{raw_bits};
 ghost use Rattle.tetra_channels.specs.Fields.{raw_reading};
+ghost use Rattle.tetra_channels.specs.Laws.{UndamagedRawIsRead};
 
 use tetra_bits::{Bits, Mark, Reading, Soft, read_plain};
 use tetra_scramble::{Key, flip_bits};
@@ -45,4 +46,9 @@ impl Raw72 {
         reading.bits = read_plain(soft);
         reading.potentials = None;
     }
+
+    /// Values that have the signs of the type-5 bits of a block, none of them 0, are read as that block.
+    pub fn undamaged_is_read()
+        ensures { UndamagedRawIsRead }
+    {}
 }

@@ -8,8 +8,8 @@ use Rattle.std.proofs.lemmas.List.{get_or_append_left, length-append, take_more,
 use Rattle.std.proofs.Math.Seq.{get_or-append_seam}
 use Rattle.std.proofs.lemmas.Nat.{xor_comm, xor_lt, xor_block}
 use Rattle.tetra_bits.specs.Order.{bit_at}
-use Rattle.tetra_parity.specs.Polynomials.{reduced, times_x, power_rest, poly_sum}
-use Rattle.tetra_parity.specs.Parity.{block_term, block_rest, generator16, ones_term, ones_rest, parity16}
+use Rattle.tetra_bits.specs.Polynomials.{reduced, times_x, power_rest}
+use Rattle.tetra_parity.specs.Parity.{poly_sum, block_term, block_rest, generator16, ones_term, ones_rest, parity16}
 use Rattle.tetra_parity.proofs.Rests.{times_x-xor, times_x-zero, times_x-sum, power_rest-lt, poly_sum-lt, poly_sum-same}
 
 length-snoc : (block : List Bool) (x : Bool) → length (block ++ x ∷ []) ≡ suc (length block)

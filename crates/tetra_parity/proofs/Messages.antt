@@ -6,7 +6,7 @@ use Rattle.std.proofs.Math.Seq.{take-append_seam, drop-append_seam}
 use Rattle.std.proofs.lemmas.List.{length-append, length-drop, get_or-drop, ext_get_or}
 use Rattle.tetra_bits.specs.Numbered.{numbered, numbered_more, length-numbered, get_or-numbered}
 use Rattle.tetra_bits.specs.Order.{bit_at}
-use Rattle.tetra_parity.specs.Digits.{digit, digits}
+use Rattle.tetra_bits.specs.Digits.{digit, digits}
 use Rattle.tetra_parity.specs.Parity.{parity16, parity_bits16, with_parity16, before16, Holds16, same_bits, holds16_of, ParityHolds, TestsParity}
 
 pub length-parity_bits16 : (block : List Bool) → length (parity_bits16 block) ≡ 16

@@ -5,7 +5,8 @@ use Rattle.std.specs.Int.Bits.{bit_xor, xor_assoc, xor_self, xor_zero_l, xor_zer
 use Rattle.std.proofs.Math.Nat.{pow-succ'}
 use Rattle.std.proofs.lemmas.Bool.{cases_lt, lt-ltb, le-ltb}
 use Rattle.std.proofs.lemmas.Nat.{xor_comm, xor_lt, xor_block, pow_pos}
-use Rattle.tetra_parity.specs.Polynomials.{reduced, times_x, power_rest, poly_sum}
+use Rattle.tetra_bits.specs.Polynomials.{reduced, times_x, power_rest}
+use Rattle.tetra_parity.specs.Parity.{poly_sum}
 
 -- the four of a sum in another order
 pub xor_four : (a b c d : ℕ) → bit_xor (bit_xor a b) (bit_xor c d) ≡ bit_xor (bit_xor a c) (bit_xor b d)

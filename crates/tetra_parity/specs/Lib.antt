@@ -1,3 +1,1 @@
-pub mod Digits
-pub mod Polynomials
 pub mod Parity

@@ -1,9 +1,15 @@
 -- The parity of the block code (K1 + 16, K1), EN 300 392-2 clause 8.2.3.3. Bits of a block are numbered from 1.
+use Prim.Native.Nat.{zero, suc}
 use Rattle.std.specs.Prelude.{◌≡◌, ℕ, ◌+◌, ◌-◌, Bool, true, false, ◌&&◌, cond, bit_xor, List, [], ◌∷◌, ◌++◌, length, take, drop}
 use Rattle.std.proofs.Math.Bool.{beq}
 use Rattle.tetra_bits.specs.Order.{bit_at}
-use Rattle.tetra_parity.specs.Digits.{digits}
-use Rattle.tetra_parity.specs.Polynomials.{power_rest, poly_sum}
+use Rattle.tetra_bits.specs.Digits.{digits}
+use Rattle.tetra_bits.specs.Polynomials.{power_rest}
+
+-- the sum of the polynomials f 1 to f n
+unfoldable pub poly_sum : ℕ → (ℕ → ℕ) → ℕ
+poly_sum zero f = 0
+poly_sum (suc n) f = bit_xor (poly_sum n f) (f (suc n))
 
 -- b(k) X^(d + K1 - k) modulo a generator of degree d
 unfoldable pub block_term : ℕ → ℕ → List Bool → ℕ → ℕ

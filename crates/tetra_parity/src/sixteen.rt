@@ -1,8 +1,8 @@
 // Parity of 16 bits.
 ghost use Rattle.std.specs.Prelude.{◌≡◌, ◌↔◌, ◌≤◌, ◌<◌, ◌+◌, cond, bit_xor, IsTrue, length, take};
-ghost use Rattle.tetra_parity.specs.Digits.{digit};
+ghost use Rattle.tetra_bits.specs.Digits.{digit};
 ghost use Rattle.tetra_parity.specs.Parity.{parity16, with_parity16, Holds16, holds16_of, generator16};
-ghost use Rattle.tetra_parity.specs.Polynomials.{times_x, power_rest};
+ghost use Rattle.tetra_bits.specs.Polynomials.{times_x, power_rest};
 
 use tetra_bits::Bits;
 

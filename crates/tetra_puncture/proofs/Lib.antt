@@ -11,3 +11,5 @@ pub mod Rows
 pub mod Checking
 pub mod ToGo
 pub mod Sent
+pub mod Shapes
+pub mod Undamaged

@@ -9,8 +9,10 @@ use Rattle.std.proofs.lemmas.Nat.Bits.{bit_at_cat_low, bit_at_cat_high, bit_at-z
 use Rattle.std.specs.Int.{bit_at}
 use Rattle.std.specs.Int.Bits.{bit_or}
 use Rattle.tetra_bits.specs.Numbered.{numbered, length-numbered, get_or-numbered, is_numbered, numbered_same}
+use Rattle.tetra_bits.proofs.Digits.{length-digits, digits-cat, no_digit}
 use Rattle.tetra_bits.specs.Sums.{bit_number}
-use Rattle.tetra_scramble.specs.Colour.{IsColour, digit, digits, colour_bits}
+use Rattle.tetra_bits.specs.Digits.{digit, digits}
+use Rattle.tetra_scramble.specs.Colour.{IsColour, colour_bits}
 use Rattle.tetra_scramble.specs.Key.{no_colour}
 use Rattle.tetra_scramble.specs.declared.colour.Colour.{Colour}
 
@@ -75,39 +77,6 @@ number_of-digit all number k (suc n) e =
     let m : number % 2 ^ (1 + n) ≡ (number / 2 ^ n % 2 ^ 1) * 2 ^ n + number % 2 ^ n = mod-pow-add number 1 n in
     rw (d, i, h, s) (sym m)
 
-high_digit : (a b x y k : ℕ) → y < 2 ^ b → k < a → digit a x (k + 1) ≡ digit (a + b) (x * 2 ^ b + y) (k + 1)
-unfolding digit
-high_digit a b x y k h l =
-    let i : a + b - (k + 1) - b ≡ a - (k + 1) = omega arith in
-    let e : bit_at (x * 2 ^ b + y) (a + b - (k + 1)) ≡ bit_at x (a + b - (k + 1) - b) = bit_at_cat_high x b y (a + b - (k + 1)) h (omega arith) in
-    ap (λ n. nat_eq n 1) (sym (e ∙ ap (bit_at x) i))
-
-low_digit : (a b x y k : ℕ) → a ≤ k → k < a + b → digit b y (k - a + 1) ≡ digit (a + b) (x * 2 ^ b + y) (k + 1)
-unfolding digit
-low_digit a b x y k g l =
-    let i : a + b - (k + 1) ≡ b - (k - a + 1) = omega arith in
-    let e : bit_at (x * 2 ^ b + y) (b - (k - a + 1)) ≡ bit_at y (b - (k - a + 1)) = bit_at_cat_low x b y (b - (k - a + 1)) (omega arith) in
-    ap (λ n. nat_eq n 1) (sym (ap (bit_at (x * 2 ^ b + y)) i ∙ e))
-
-digit-cat : (a b x y : ℕ) → y < 2 ^ b → (k : ℕ) → k < a + b → get_or (numbered (digit a x) a ++ numbered (digit b y) b) k false ≡ digit (a + b) (x * 2 ^ b + y) (k + 1)
-digit-cat a b x y h k l =
-    elim (cases_lt k a) [
-      | inl lt ↦
-          let in_first : k < length (numbered (digit a x) a) = rw (length-numbered (digit a x) a) lt in
-          get_or_append_left (numbered (digit a x) a) (numbered (digit b y) b) false k in_first ∙ get_or-numbered (digit a x) a k false lt ∙ high_digit a b x y k h lt
-      | inr ge ↦
-          get_or-append_right (numbered (digit a x) a) (numbered (digit b y) b) a k false (length-numbered (digit a x) a) ge
-          ∙ get_or-numbered (digit b y) b (k - a) false (omega arith)
-          ∙ low_digit a b x y k ge l
-    ]
-
--- two numbers in one
-pub digits-cat : (a b x y : ℕ) → y < 2 ^ b → digits (a + b) (x * 2 ^ b + y) ≡ digits a x ++ digits b y
-unfolding digits
-digits-cat a b x y h =
-    let size : length (numbered (digit a x) a ++ numbered (digit b y) b) ≡ a + b = length-append (numbered (digit a x) a) (numbered (digit b y) b) ∙ rw (length-numbered (digit a x) a, length-numbered (digit b y) b) refl in
-    sym (is_numbered (digit (a + b) (x * 2 ^ b + y)) (a + b) false (numbered (digit a x) a ++ numbered (digit b y) b) size (digit-cat a b x y h))
-
 -- the three numbers of a colour in one, as the code computes it
 pub three_in_one : (x y z : ℕ) → x ≤ 1023 → y ≤ 16383 → z ≤ 63 → bit_or (bit_or (x * 1048576 % 4294967296) (y * 64 % 4294967296)) z ≡ (x * 16384 + y) * 64 + z
 three_in_one x y z hx hy hz =
@@ -128,10 +97,6 @@ three_digits colour x y z ex ey ez h =
     ∙ ap (λ d. d ++ digits 6 z) (digits-cat 10 14 x y (omega arith))
     ∙ rw (ex, ey, ez) refl
 
-length-digits : (n number : ℕ) → length (digits n number) ≡ n
-unfolding digits
-length-digits n number = length-numbered (digit n number) n
-
 pub length-colour_bits : (colour : Colour) → length (colour_bits colour) ≡ 30
 unfolding colour_bits
 length-colour_bits colour =
@@ -142,12 +107,6 @@ pub length-no_colour : length no_colour ≡ 30
 unfolding no_colour
 length-no_colour = length-numbered (λ _. false) 30
 
-no_digit : (k : ℕ) → digit 30 0 k ≡ false
-unfolding digit
-no_digit k =
-    let e : 0 / 2 ^ (30 - k) % 2 ≡ 0 = bit_at-zero (30 - k) in
-    rw e refl
-
 pub digits_of_none : digits 30 0 ≡ no_colour
 unfolding digits no_colour
-digits_of_none = numbered_same (digit 30 0) (λ _. false) 30 false (λ j a b. no_digit j)
+digits_of_none = numbered_same (digit 30 0) (λ _. false) 30 false (λ j a b. no_digit 30 j)

@@ -11,7 +11,7 @@ use Rattle.std.proofs.lemmas.Nat.{ones_cat, or_comm, or_shifted}
 use Rattle.tetra_bits.specs.Numbered.{numbered, length-numbered, get_or-numbered}
 use Rattle.tetra_bits.specs.Order.{bit_at}
 use Rattle.tetra_bits.specs.Sums.{add2, bit_number}
-use Rattle.tetra_scramble.specs.Colour.{digit, digits}
+use Rattle.tetra_bits.specs.Digits.{digit, digits}
 use Rattle.tetra_scramble.specs.Key.{distances, sum2_over, past, key_bit}
 use Rattle.tetra_scramble.proofs.Numbers.{number_of, number_of-lt, number_of-same, number_of-cat, number_of-digit}
 

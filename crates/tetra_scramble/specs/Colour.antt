@@ -1,6 +1,6 @@
 -- The extended colour code, EN 300 392-2 clause 8.2.5: mobile country code, mobile network code and colour code.
-use Rattle.std.specs.Prelude.{ℕ, ◌-◌, ◌/◌, ◌%◌, ◌^◌, ◌≤◌, Bool, nat_eq, List, ◌++◌}
-use Rattle.tetra_bits.specs.Numbered.{numbered}
+use Rattle.std.specs.Prelude.{◌≤◌, Bool, List, ◌++◌}
+use Rattle.tetra_bits.specs.Digits.{digits}
 use Rattle.tetra_scramble.specs.declared.colour.Colour.{Colour}
 
 -- each number in its range
@@ -8,14 +8,6 @@ pub record IsColour (colour : Colour) : Type 0 where
   pub country : colour.mcc ≤ 1023
   pub network : colour.mnc ≤ 16383
   pub code : colour.cc ≤ 63
-
--- digit k of a number in n binary digits, counted from 1, the most significant first
-unfoldable pub digit : ℕ → ℕ → ℕ → Bool
-digit n number k = nat_eq (number / 2 ^ (n - k) % 2) 1
-
--- a number in n binary digits, the most significant first
-unfoldable pub digits : ℕ → ℕ → List Bool
-digits n number = numbered (digit n number) n
 
 -- e(1) to e(30): 10 bits of MCC, 14 of MNC, 6 of the colour code
 unfoldable pub colour_bits : Colour → List Bool

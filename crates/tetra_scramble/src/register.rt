@@ -1,6 +1,7 @@
 // The key by a register.
 ghost use Rattle.std.specs.Prelude.{◌≡◌, ◌<◌, ◌^◌, ◌+◌, ◌*◌};
-ghost use Rattle.tetra_scramble.specs.Colour.{IsColour, digits, colour_bits};
+ghost use Rattle.tetra_bits.specs.Digits.{digits};
+ghost use Rattle.tetra_scramble.specs.Colour.{IsColour, colour_bits};
 ghost use Rattle.tetra_scramble.specs.Key.{IsKey, key_from, key_of, zero_key_bits, no_colour};
 
 use crate::colour::Colour;

@@ -5,6 +5,7 @@ use Rattle.tetra_puncture.proofs.Checking.{checked_none, checked_more}
 use Rattle.tetra_puncture.specs.Trellis.{bit_taken}
 use Rattle.tetra_puncture.specs.Certified.{Fits}
 use Rattle.tetra_cert.specs.Checked.{IsRight, IsSound, IsFirstOfStates}
+use Rattle.tetra_cert.proofs.Places.{right_is_verdict}
 use Rattle.tetra_cert.proofs.Verdicts.{accepted, refused, not_accepted, certified}
 use Rattle.tetra_cert.proofs.checking.check.Goals as goal
 
@@ -29,6 +30,9 @@ unfolding IsRight
 returns-in-Some-clause-right g c =
     refused g.P.Plan.plan c.args.soft.now c.spread-wide.result c.args.message.now c.args.potentials.now c.spread-wide.ensures.values
     c.loop-t.t c.in-Some.field-0 (omega (arith, g.met.P.Plan.same_steps, c.STEPS-t-end.ensures)) c.loop-t.invariant.checked c.in-Some.ensures
+
+pub returns-in-Some-clause-value : goal.returns-in-Some-clause-value
+returns-in-Some-clause-value g c = right_is_verdict g.P.Plan.plan c.args.soft.now c.args.message.now c.args.potentials.now _ (returns-in-Some-clause-right g c)
 
 pub returns-in-Some-clause-complete : goal.returns-in-Some-clause-complete
 returns-in-Some-clause-complete g c = λ ok.
@@ -58,3 +62,6 @@ returns-clause-sound g c =
     } in
     certified g.P.Plan.plan c.args.soft.now c.spread-wide.result c.args.message.now c.args.potentials.now c.spread-wide.ensures.values
     c.loop-t.t fits (omega (arith, law.same_steps, c.STEPS-t-end.ensures)) c.loop-t.invariant.checked
+
+pub returns-clause-value : goal.returns-clause-value
+returns-clause-value g c = right_is_verdict g.P.Plan.plan c.args.soft.now c.args.message.now c.args.potentials.now _ (returns-clause-right g c)

@@ -22,5 +22,4 @@ loop-i-preserved g c =
 pub returns-clause-value : goal.returns-clause-value
 returns-clause-value g c =
     let law = g.met.P.Plan in
-    c.loop-i.invariant.sum_is
-    ∙ all_costs g.P.Plan.plan c.args.wide.now c.args.t c.args.state c.loop-i.i c.args.bit (omega (arith, law.same_outs, c.OUTS-outputs.ensures))
+    all_costs g.P.Plan.plan c.args.wide.now c.args.t c.args.state c.loop-i.i c.args.bit c.loop-i.sum c.loop-i.invariant.sum_is (omega (arith, law.same_outs, c.OUTS-outputs.ensures))

@@ -1,7 +1,7 @@
 use Rattle.std.proofs.Common.{◌≡◌, ◌<◌, ◌≤◌, ◌+◌, ◌++◌, [], length, take, arith, sym, ap, ◌∙◌}
 use Rattle.std.proofs.lemmas.List.{length-append, append-nil, take_all}
 use Rattle.tetra_bits.specs.Numbered.{numbered, numbered_none, length-numbered}
-use Rattle.tetra_parity.specs.Digits.{digit}
+use Rattle.tetra_bits.specs.Digits.{digit}
 use Rattle.tetra_parity.specs.Parity.{parity16}
 use Rattle.tetra_parity.proofs.Messages.{with_all, one_more}
 use Rattle.tetra_parity.proofs.sixteen.add16.Goals as goal

@@ -1,7 +1,7 @@
 use Rattle.std.proofs.Common.{◌≡◌, ◌+◌, ◌-◌, nat_eq, arith, ap, ◌∙◌}
 use Rattle.std.proofs.lemmas.Nat.Bits.{shr_and_one}
 use Rattle.std.specs.Int.{bit_at}
-use Rattle.tetra_parity.specs.Digits.{digit}
+use Rattle.tetra_bits.specs.Digits.{digit}
 use Rattle.tetra_parity.proofs.sixteen.bit_of.Goals as goal
 
 pub returns : goal.returns

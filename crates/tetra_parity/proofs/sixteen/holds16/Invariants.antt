@@ -1,6 +1,6 @@
 use Rattle.std.proofs.Common.{◌≡◌, ℕ, ◌+◌, ◌<◌}
 use Rattle.tetra_bits.specs.Order.{bit_at}
-use Rattle.tetra_parity.specs.Digits.{digit}
+use Rattle.tetra_bits.specs.Digits.{digit}
 use Rattle.tetra_parity.proofs.sixteen.holds16.Given as goal
 
 abbrev pub invariant-loop-i : goal.invariant-loop-i

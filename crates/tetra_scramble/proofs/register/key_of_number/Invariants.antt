@@ -1,6 +1,6 @@
 use Rattle.std.proofs.Common.{◌≡◌}
 use Rattle.tetra_bits.specs.Numbered.{numbered}
-use Rattle.tetra_scramble.specs.Colour.{digits}
+use Rattle.tetra_bits.specs.Digits.{digits}
 use Rattle.tetra_scramble.specs.Key.{key_bit}
 use Rattle.tetra_scramble.proofs.Window.{window}
 use Rattle.tetra_scramble.proofs.register.key_of_number.Given as goal

@@ -1,0 +1,16 @@
+//! The four timeslots of a session: what is sent and what is read, slot by slot.
+#![tactic(auto)]
+
+mod built;
+mod burst;
+mod fields;
+mod front;
+mod laws;
+mod receiver;
+mod sender;
+
+pub use built::{is_built, is_built_letter};
+pub use front::{Front, FrontField};
+pub use laws::{burst_arrives, heard_apart, sent_apart};
+pub use receiver::Receiver;
+pub use sender::Sender;

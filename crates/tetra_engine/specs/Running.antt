@@ -9,7 +9,7 @@ use Rattle.tetra_engine.specs.declared.status.Status.{Status}
 use Rattle.tetra_engine.specs.declared.status.Status.TheVariants.{Words, NotBuilt, Write}
 use Rattle.tetra_engine.specs.declared.status.End.{End}
 use Rattle.tetra_engine.specs.Auditing.{auditing}
-use Rattle.tetra_engine.specs.Built.{is_built}
+use Rattle.tetra_engine.specs.Built.{is_ready}
 use Rattle.tetra_engine.specs.Decoding.{decoding}
 use Rattle.tetra_engine.specs.Encoding.{encoding}
 use Rattle.tetra_engine.specs.Outcomes.{EndsBy, Outcome, Grows}
@@ -25,7 +25,7 @@ StartsBuilt true Source Sink end = Unit {0}
 StartsBuilt false Source Sink end = StopsAt NotBuilt Source Sink end
 
 abbrev pub Starts : Result (Command × Settings) WordFault → Type 0 → Type 0 → End → Type 0
-Starts (Ok (command, settings)) Source Sink end = StartsBuilt (is_built command settings) Source Sink end
+Starts (Ok (command, settings)) Source Sink end = StartsBuilt (is_ready command settings) Source Sink end
 Starts (Err fault) Source Sink end = StopsAt (Words fault.index fault.why) Source Sink end
 
 -- the end of a command's run
@@ -41,7 +41,7 @@ EndsBuilt true command settings rest0 rest1 taken0 taken1 end = CommandEnds comm
 EndsBuilt false command settings rest0 rest1 taken0 taken1 end = Unit {0}
 
 abbrev pub Ends : Result (Command × Settings) WordFault → Option (List ℕ) → Option (List ℕ) → Option (List ℕ) → Option (List ℕ) → End → Type 0
-Ends (Ok (command, settings)) rest0 rest1 taken0 taken1 end = EndsBuilt (is_built command settings) command settings rest0 rest1 taken0 taken1 end
+Ends (Ok (command, settings)) rest0 rest1 taken0 taken1 end = EndsBuilt (is_ready command settings) command settings rest0 rest1 taken0 taken1 end
 Ends (Err fault) rest0 rest1 taken0 taken1 end = Unit {0}
 
 -- such a run settles the sink, but where a write or the flush failed
@@ -50,7 +50,7 @@ SettlesBuilt true settled status = status ≢ Write → IsTrue settled
 SettlesBuilt false settled status = Unit {0}
 
 abbrev pub Settles : Result (Command × Settings) WordFault → Bool → Status → Type 0
-Settles (Ok (command, settings)) settled status = SettlesBuilt (is_built command settings) settled status
+Settles (Ok (command, settings)) settled status = SettlesBuilt (is_ready command settings) settled status
 Settles (Err fault) settled status = Unit {0}
 
 -- the end of a run that meets no fault, by the command
@@ -66,5 +66,5 @@ RunsBuilt false command settings bytes end = end ≡ record { status = NotBuilt;
 
 -- the end of a run over these bytes that meets no fault
 abbrev pub RunsOver : Result (Command × Settings) WordFault → List ℕ → End → Type 0
-RunsOver (Ok (command, settings)) bytes end = RunsBuilt (is_built command settings) command settings bytes end
+RunsOver (Ok (command, settings)) bytes end = RunsBuilt (is_ready command settings) command settings bytes end
 RunsOver (Err fault) bytes end = end ≡ record { status = Words fault.index fault.why; slots = 0 }

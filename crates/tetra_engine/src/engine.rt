@@ -4,7 +4,8 @@ ghost use Rattle.std.specs.Io.KnownBytes.{IsAtEnd};
 ghost use Rattle.tetra_io.specs.Streams.{Rose};
 ghost use Rattle.tetra_settings.specs.Validity.{IsValid};
 ghost use Rattle.tetra_settings.specs.Words.{texts, meaning};
-ghost use Rattle.tetra_engine.specs.Built.{is_built, is_built_command, is_built_direction, is_built_mode};
+ghost use Rattle.tetra_session.specs.Built.{IsBuilt};
+ghost use Rattle.tetra_engine.specs.Built.{is_built_command};
 ghost use Rattle.tetra_engine.specs.Outcomes.{EndsBy, Grows, IsEnd};
 ghost use Rattle.tetra_engine.specs.Running.{Starts, CommandEnds, Ends, Settles};
 
@@ -14,20 +15,14 @@ use crate::encoder::Encoder;
 use crate::status::{End, Status};
 use crate::work::finish;
 use tetra_io::{Sink, Source};
-use tetra_settings::{Command, Dir, Mode, Settings, read_words};
+use tetra_session::is_built;
+use tetra_settings::{Command, Settings, read_words};
 
-/// Whether a run of the command under these settings is built.
-fn is_ready(command: Command, settings: &Settings) -> bool
-    ensures { result ≡ is_built command settings.now }
+/// Whether the command is built.
+fn is_built_command(command: Command) -> bool
+    ensures { result ≡ is_built_command command }
 {
-    matches!(
-        command,
-        Command::Encode | Command::Decode | Command::Audit
-    ) && settings.dir == Dir::Ul
-        && settings
-            .modes
-            .iter()
-            .all(|mode| matches!(mode, Mode::Sig | Mode::D72))
+    matches!(command, Command::Encode | Command::Decode | Command::Audit)
 }
 
 /// The run of a command that is built.
@@ -38,7 +33,8 @@ fn run_command<S: Source, K: Sink>(
     sink: &mut K,
 ) -> End
     requires valid { IsValid settings.now }
-    requires built { IsTrue (is_built_command command) }
+    requires command { IsTrue (is_built_command command) }
+    requires built { IsBuilt settings.now }
     ensures ends { CommandEnds command settings.now (S.rest src.old) (S.rest src.new) (K.taken sink.old) (K.taken sink.new) result }
     ensures left { IsEnd result.status → IsAtEnd (S.rest src.new) }
     ensures settled { result.status ≢ Status.Write → IsTrue (K.settled sink.new) }
@@ -84,7 +80,7 @@ pub fn run<S: Source, K: Sink>(words: &[String], src: &mut S, sink: &mut K) -> E
             };
         }
     };
-    if !is_ready(command, &settings) {
+    if !(is_built_command(command) && is_built(&settings)) {
         return End {
             status: Status::NotBuilt,
             slots: 0,

@@ -27,4 +27,4 @@ pub use slots::{read_values, write_values};
 pub use status::{End, Status};
 pub use temporary::{FieldWhy, RecordFault, Rule, SlotVerdict};
 pub use verdicts::{Line, line_of_slot};
-pub use work::{Next, Work, drive, finish};
+pub use work::{Stop, Work, drive, finish};

@@ -17,3 +17,4 @@ pub mod Decoder
 pub mod Auditing
 pub mod Refusals
 pub mod Auditor
+pub mod Running

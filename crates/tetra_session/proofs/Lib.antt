@@ -3,3 +3,4 @@ pub mod BuiltLemmas
 pub mod Fitting
 pub mod OneField
 pub mod Answering
+pub mod ApartLemmas

@@ -4,3 +4,4 @@ pub mod Built
 pub mod Time
 pub mod Sent
 pub mod Heard
+pub mod Apart

@@ -5,4 +5,16 @@
 #[cfg(test)]
 mod bytes;
 #[cfg(test)]
+mod calls;
+#[cfg(test)]
+mod drawn;
+#[cfg(test)]
+mod faults;
+#[cfg(test)]
 mod plain;
+#[cfg(test)]
+mod rows;
+#[cfg(test)]
+mod runs;
+#[cfg(test)]
+mod words;

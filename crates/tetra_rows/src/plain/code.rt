@@ -1,4 +1,4 @@
-// SCH/F on the uplink: EN 300 392-2 clauses 8.2, 8.3.1 and 9.4.4. The silent positions are this project's own.
+// SCH/F and TCH/7.2 on the uplink: EN 300 392-2 clauses 8.2, 8.3.1 and 9.4.4. The silent positions are this project's own.
 ghost use Rattle.std.specs.Prelude.{◌<◌};
 
 /// The distances of the scrambling recurrence.
@@ -13,7 +13,7 @@ const GENERATORS: [[bool; 5]; 4] = [
 ];
 
 const TAIL: &[u8; 4] = b"1100";
-const TRAINING: &[u8; 22] = b"1101000011101001110100";
+pub const TRAINING: &[u8; 22] = b"1101000011101001110100";
 
 /// The country code, the network code and the colour code, 30 bits, each most significant bit first.
 pub fn colour(mcc: u32, mnc: u32, cc: u32) -> [bool; 30] {
@@ -137,12 +137,13 @@ pub fn position(k: usize) -> usize
     if k < 216 { 38 + k } else { 60 + k }
 }
 
-fn written(bit: bool) -> u8 {
+/// The byte of a sent bit.
+pub fn written(bit: bool) -> u8 {
     if bit { 0x81 } else { 0x7F }
 }
 
-/// The slot of a block.
-pub fn slot(block: &[bool; 268], scrambling: &[bool; 464]) -> [u8; 510] {
+/// The slot that carries 432 type-5 bits.
+pub fn burst(type5: &[bool; 432]) -> [u8; 510] {
     let mut slot = [0; 510];
     for k in 0..4usize {
         slot[34 + k] = written(TAIL[k] == b'1');
@@ -151,10 +152,28 @@ pub fn slot(block: &[bool; 268], scrambling: &[bool; 464]) -> [u8; 510] {
     for k in 0..22usize {
         slot[254 + k] = written(TRAINING[k] == b'1');
     }
-    let type2 = type2(block);
-    for j in 0..432usize {
-        let k = interleaved(j);
-        slot[position(k)] = written(mother(&type2, place(j)) != scrambling[32 + k]);
+    for k in 0..432usize {
+        slot[position(k)] = written(type5[k]);
     }
     slot
+}
+
+/// The type-5 bits of a block on SCH/F.
+pub fn signalling(block: &[bool; 268], scrambling: &[bool; 464]) -> [bool; 432] {
+    let type2 = type2(block);
+    let mut type5 = [false; 432];
+    for j in 0..432usize {
+        let k = interleaved(j);
+        type5[k] = mother(&type2, place(j)) != scrambling[32 + k];
+    }
+    type5
+}
+
+/// The type-5 bits of a block on TCH/7.2.
+pub fn traffic(block: &[bool; 432], scrambling: &[bool; 464]) -> [bool; 432] {
+    let mut type5 = [false; 432];
+    for k in 0..432usize {
+        type5[k] = block[k] != scrambling[32 + k];
+    }
+    type5
 }

@@ -4,11 +4,11 @@ ghost use Rattle.std.specs.Prelude.{◌<◌, ◌≤◌};
 use super::code::{has_power, interleaved, mother, parity, place, position};
 use std::alloc::{AllocError, Global};
 
-/// A slot, the claim about it, the claimed message with four zeros behind it, and what a bit 0 and a bit 1 cost at each
+/// A slot with its record, the record's message with four zeros behind it, and what a bit 0 and a bit 1 cost at each
 /// place of the mother code's word.
 #[derive(Drop)]
 pub struct Judged<'a> {
-    claim: &'a [u8],
+    file: &'a [u8],
     message: [bool; 288],
     costs: [[u8; 2]; 1152],
 }
@@ -23,25 +23,25 @@ fn cost(byte: u8, bit: bool) -> u8 {
 }
 
 /// The costs at all places: nothing at a place that is not sent, and a key bit 1 turns 0 and 1 round.
-fn costs(slot: &[u8; 510], scrambling: &[bool; 464]) -> [[u8; 2]; 1152] {
+fn costs(file: &[u8], scrambling: &[bool; 464]) -> [[u8; 2]; 1152] {
     let mut costs = [[0; 2]; 1152];
     for j in 0..432usize {
         let k = interleaved(j);
-        let byte = slot[position(k)];
+        let byte = byte_at(file, position(k));
         let key = scrambling[32 + k];
         costs[place(j)] = [cost(byte, key), cost(byte, !key)];
     }
     costs
 }
 
-fn byte_at(claim: &[u8], i: usize) -> u8 {
-    claim.get(i).copied().unwrap_or(0)
+fn byte_at(file: &[u8], i: usize) -> u8 {
+    file.get(i).copied().unwrap_or(0)
 }
 
-fn message(claim: &[u8]) -> [bool; 288] {
+fn message(file: &[u8]) -> [bool; 288] {
     let mut message = [false; 288];
     for k in 0..284usize {
-        message[k] = (byte_at(claim, 4 + k / 8) >> (7 - k % 8)) & 1 == 1;
+        message[k] = (byte_at(file, 514 + k / 8) >> (7 - k % 8)) & 1 == 1;
     }
     message
 }
@@ -77,8 +77,8 @@ impl Judged<'_> {
         requires step { step ≤ 288 }
         requires state { state < 16 }
     {
-        let i = 40 + 32 * step + 2 * state;
-        u16::from_be_bytes([byte_at(self.claim, i), byte_at(self.claim, i + 1)])
+        let i = 550 + 32 * step + 2 * state;
+        u16::from_be_bytes([byte_at(self.file, i), byte_at(self.file, i + 1)])
     }
 
     /// The cost of a bit's branch with the entry that it leads to.
@@ -149,23 +149,23 @@ impl Judged<'_> {
     }
 }
 
-/// The line on slot 0 of an audit.
-pub fn line(alloc: Global, slot: &[u8; 510], scrambling: &[bool; 464], claim: &[u8]) -> Result<String, AllocError> {
+/// The line of an audit on a slot and its record behind it.
+pub fn line(alloc: Global, file: &[u8], scrambling: &[bool; 464]) -> Result<String, AllocError> {
     let judged = Judged {
-        claim,
-        message: message(claim),
-        costs: costs(slot, scrambling),
+        file,
+        message: message(file),
+        costs: costs(file, scrambling),
     };
-    let metric = u32::from(byte_at(claim, 2)) * 256 + u32::from(byte_at(claim, 3));
-    if byte_at(claim, 0) != b'F' {
+    let metric = u32::from(byte_at(file, 512)) * 256 + u32::from(byte_at(file, 513));
+    if byte_at(file, 510) != b'F' {
         String::from_str(alloc, "0 refused kind\n")
-    } else if byte_at(claim, 39) % 16 != 0 {
+    } else if byte_at(file, 549) % 16 != 0 {
         String::from_str(alloc, "0 refused field 0 pad\n")
     } else if let Some((step, state, rule)) = judged.first_failing() {
         format!(in alloc; "0 refused field 0 step {step} state {state} {rule}\n")
     } else if metric != judged.metric() {
         String::from_str(alloc, "0 refused field 0 metric\n")
-    } else if byte_at(claim, 1) != judged.mark() {
+    } else if byte_at(file, 511) != judged.mark() {
         String::from_str(alloc, "0 refused field 0 mark\n")
     } else {
         String::from_str(alloc, "0 ok\n")

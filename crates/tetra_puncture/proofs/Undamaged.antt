@@ -1,5 +1,5 @@
 -- Values that have the signs of a sent word are read as its message.
-use Rattle.std.proofs.Common.{◌≡◌, ℕ, ◌+◌, ◌-◌, ◌<◌, ◌⊎◌, inl, inr, Bool, List, length, arith, sym, ◌∙◌}
+use Rattle.std.proofs.Common.{◌≡◌, ◌-◌, ◌<◌, ◌⊎◌, inl, inr, Bool, List, length, arith, sym, ◌∙◌}
 use Rattle.std.specs.Prelude.{ℤ}
 use Rattle.tetra_bits.specs.Cost.{metric}
 use Rattle.tetra_bits.specs.Numbered.{length-numbered}

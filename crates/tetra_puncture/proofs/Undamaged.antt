@@ -25,6 +25,6 @@ undamaged_is_best p r m differ message u =
   where
     others : (other : List Bool) → length other ≡ p.steps - 4 → (m ≡ other) ⊎ (0 < metric r (word p other))
     others other l = elim (others_cost (word p m) (word p other) r u (length-word p other ∙ sym (length-word p m))) [
-        | inl same ↦ inl (sym (differ other m (omega arith) message same))
-        | inr costs ↦ inr costs
-      ]
+      | inl same ↦ inl (sym (differ other m (omega arith) message same))
+      | inr costs ↦ inr costs
+    ]

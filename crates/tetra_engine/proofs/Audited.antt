@@ -6,11 +6,11 @@ use Rattle.std.specs.Io.KnownBytes.{Consumes}
 use Rattle.tetra_settings.specs.declared.types.Settings.{Settings}
 use Rattle.tetra_engine.specs.declared.status.Status.TheVariants.{NotBuilt}
 use Rattle.tetra_engine.specs.declared.refusals.Refusals.{Refusals}
-use Rattle.tetra_engine.specs.declared.temporary.Receiver.{Receiver}
+use Rattle.tetra_session.specs.declared.receiver.Receiver.{Receiver}
 use Rattle.tetra_engine.specs.declared.temporary.SlotVerdict.{SlotVerdict}
 use Rattle.tetra_engine.specs.declared.temporary.SlotVerdict.TheVariants.{Agrees, Kind, Field}
-use Rattle.tetra_engine.specs.BelowReceiver.{ReceiverStands}
-use Rattle.tetra_engine.specs.BelowReading.{slot_letter, claim_length}
+use Rattle.tetra_session.specs.Heard.{ReceiverStands, slot_letter}
+use Rattle.tetra_engine.specs.BelowReading.{claim_length}
 use Rattle.tetra_engine.specs.Framing.{is_built_slot}
 use Rattle.tetra_engine.specs.Auditing.{Claimed, auditing, slots_of, front_at, refused_by, refused_slots, verdict_at}
 use Rattle.tetra_engine.specs.Refusals.{Counts}
@@ -28,7 +28,7 @@ slots_more before input = map-append (λ i. soft_values i.0) before (input ∷ [
 pub letter_same : (settings : Settings) (before : List Claimed) (receiver : Receiver) (soft : List ℤ) → ReceiverStands settings (slots_of before) receiver
     → slot_letter receiver.settings receiver.turn soft ≡ slot_letter settings (length before) soft
 letter_same settings before receiver soft stands =
-    ap (λ s. slot_letter s receiver.turn soft) stands.settings_same ∙ ap (λ t. slot_letter settings t soft) (stands.turn ∙ length-map before (λ i. soft_values i.0))
+    ap (λ s. slot_letter s receiver.turn soft) stands.same ∙ ap (λ t. slot_letter settings t soft) (stands.turn ∙ length-map before (λ i. soft_values i.0))
 
 -- the slot of an input that begins the bytes
 slot_of_input : (x : Claimed) (slot u rest : List ℕ) → length x.0 ≡ 510 → length slot ≡ 510 → slot ++ u ≡ (x.0 ++ x.1) ++ rest → x.0 ≡ slot

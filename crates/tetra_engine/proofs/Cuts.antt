@@ -3,7 +3,7 @@ use Rattle.std.proofs.Common.{◌≡◌, ℕ, ◌+◌, ◌<◌, ◌≤◌, List,
 use Rattle.tetra_engine.specs.Shapes.{Shape, AreInputs, spellings, NoInput, IsCut, IsUnambiguous, OneCut}
 
 -- what follows one front is the same
-behind : (a u v : List ℕ) → a ++ u ≡ a ++ v → u ≡ v
+pub behind : (a u v : List ℕ) → a ++ u ≡ a ++ v → u ≡ v
 behind [] u v e = e
 behind (x ∷ a) u v e = behind a u v (cc e)
 

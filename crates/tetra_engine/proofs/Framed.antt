@@ -8,9 +8,8 @@ use Rattle.std.specs.Io.KnownBytes.{Consumes}
 use Rattle.tetra_settings.specs.declared.types.Settings.{Settings}
 use Rattle.tetra_engine.specs.declared.status.Status.TheVariants.{Input, NotBuilt}
 use Rattle.tetra_engine.specs.declared.temporary.RecordFault.TheVariants.{Truncated}
-use Rattle.tetra_engine.specs.declared.temporary.Receiver.{Receiver}
-use Rattle.tetra_engine.specs.BelowReceiver.{ReceiverStands}
-use Rattle.tetra_engine.specs.BelowReading.{slot_letter}
+use Rattle.tetra_session.specs.declared.receiver.Receiver.{Receiver}
+use Rattle.tetra_session.specs.Heard.{ReceiverStands, slot_letter}
 use Rattle.tetra_engine.specs.Framing.{is_built_slot, framing_stop}
 use Rattle.tetra_engine.specs.Decoding.{decoding}
 use Rattle.tetra_engine.specs.Slots.{soft_values}
@@ -59,4 +58,4 @@ unbuilt_slot settings before slot old new size unbuilt came =
 pub letter_same : (settings : Settings) (before : List (List ℕ)) (receiver : Receiver) (soft : List ℤ) → ReceiverStands settings (map soft_values before) receiver
     → slot_letter receiver.settings receiver.turn soft ≡ slot_letter settings (length before) soft
 letter_same settings before receiver soft stands =
-    ap (λ s. slot_letter s receiver.turn soft) stands.settings_same ∙ ap (λ t. slot_letter settings t soft) (stands.turn ∙ length-map before soft_values)
+    ap (λ s. slot_letter s receiver.turn soft) stands.same ∙ ap (λ t. slot_letter settings t soft) (stands.turn ∙ length-map before soft_values)

@@ -24,8 +24,7 @@ ended_behind shape before front more m buf (Some b) (Some r) None short came fil
 ended_behind shape before front more m buf (Some b) (Some r) (Some s) short came fills size some =
     let few : length (take m buf) < more = omega (arith, length-take m buf, fills.0) in
     let all : b ≡ front ++ take m buf =
-    came ∙ ap (λ l. front ++ l) (fills.1 ∙ ap (λ l. take m buf ++ l) fills.2 ∙ append-nil (take m buf)) in
-    (
+    came ∙ ap (λ l. front ++ l) (fills.1 ∙ ap (λ l. take m buf ++ l) fills.2 ∙ append-nil (take m buf)) in (
       omega (arith, ap length all, length-append front (take m buf), length-take m buf, fills.0),
       subst (NoInput shape before) (sym all) (short.none (take m buf) few),
       subst (λ l. shape.Stops before l (Input (length before) Truncated)) (sym all) (short.stops (take m buf) few),
@@ -47,9 +46,8 @@ pub unbuilt_front : {X : Type 0} (shape : Shape X) (before : List X) (front : Li
     → Consumes old new front → NoneBegins shape before old NotBuilt
 unbuilt_front shape before front None new none stops some came = tt
 unbuilt_front shape before front (Some b) None none stops some came = absurd came
-unbuilt_front shape before front (Some b) (Some r) none stops some came =
-    (
-      omega (arith, ap length came, length-append front r),
-      subst (NoInput shape before) (sym came) (none r),
-      subst (λ l. shape.Stops before l NotBuilt) (sym came) (stops r),
-    )
+unbuilt_front shape before front (Some b) (Some r) none stops some came = (
+  omega (arith, ap length came, length-append front r),
+  subst (NoInput shape before) (sym came) (none r),
+  subst (λ l. shape.Stops before l NotBuilt) (sym came) (stops r),
+)

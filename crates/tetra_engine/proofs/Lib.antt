@@ -3,3 +3,4 @@ pub mod Cuts
 pub mod Fronts
 pub mod Framed
 pub mod Audited
+pub mod Unambiguous

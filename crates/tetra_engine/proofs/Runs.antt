@@ -13,7 +13,9 @@ use Rattle.tetra_engine.specs.declared.status.Status.TheVariants.{Done, Refused,
 use Rattle.tetra_engine.specs.declared.temporary.RecordFault.TheVariants.{Truncated}
 use Rattle.tetra_engine.specs.Shapes.{Shape, AreInputs, spellings, outputs, NoInput}
 use Rattle.tetra_engine.specs.Outcomes.{EndsBy, TookBefore, IsEnd, Closes, Outcome, IsPart, ReadFront, WriteFront, Came, Grows, IsFrontOfNext, ToldBoth}
-use Rattle.tetra_engine.specs.Working.{Ran, TakesPart, NoneBegins}
+use Rattle.tetra_engine.specs.declared.work.Stop.{Stop}
+use Rattle.tetra_engine.specs.declared.work.Stop.TheVariants.{End as EndStop, Bad, NotBuilt as NotBuiltStop, More, Fault}
+use Rattle.tetra_engine.specs.Working.{Ran, TakesPart, NoneBegins, StopGives, PastGives, end_by}
 
 -- one input more
 pub spellings-push : {X : Type 0} (shape : Shape X) (xs : List X) (x : X) → spellings shape (xs ++ x ∷ []) ≡ spellings shape xs ++ shape.spelling x
@@ -61,7 +63,7 @@ ended_part shape max xs m (a ∷ p) r (inr fewer) split (inr why) =
     let (bs, is, short) = fewer in absurd (omega (arith, ap length is, ap length split, length-append bs r, length-append (a ∷ p) r))
 
 -- what a failed read leaves
-pub read_front : {X : Type 0} (shape : Shape X) (max n : ℕ) (xs : List X) (r0 r1 r2 t0 t1 : Option (List ℕ))
+read_front : {X : Type 0} (shape : Shape X) (max n : ℕ) (xs : List X) (r0 r1 r2 t0 t1 : Option (List ℕ))
     → ((before : List X) (x : X) → shape.Fits before x → 0 < length (shape.spelling x)) → Ran shape max n xs r0 r1 t0 t1 → (length xs < max) ⊎ TakesFewer r1 r2 1 → TakesPart shape xs r1 r2
     → Came r0 r2 (ReadFront shape max (Appends t0 t1) (record { status = Read; slots = n }))
 read_front shape max n xs None r1 r2 t0 t1 some ran few part = tt
@@ -120,7 +122,7 @@ same_number : (a b : ℕ) → a ≡ b → (a == b) ≡ true
 same_number a b e = grind (arith, common_steps)
 
 -- a byte behind the last slot
-pub too_long : {X : Type 0} (shape : Shape X) (max n : ℕ) (xs : List X) (r0 r1 r2 t0 t1 : Option (List ℕ)) (buf : List ℕ)
+too_long : {X : Type 0} (shape : Shape X) (max n : ℕ) (xs : List X) (r0 r1 r2 t0 t1 : Option (List ℕ)) (buf : List ℕ)
     → Ran shape max n xs r0 r1 t0 t1 → max ≤ n → Consumes r1 r2 buf → length buf ≡ 1
     → IfSome r0 (λ bytes. Outcome shape max bytes (Appends t0 t1) (record { status = TooLong; slots = n }))
 too_long shape max n xs None r1 r2 t0 t1 buf ran all more one = tt
@@ -139,6 +141,27 @@ too_long shape max n xs (Some b) (Some m) (Some r) t0 t1 (a ∷ []) ran all more
       output = ran.wrote;
     }
 
+other_number : (a b : ℕ) → a < b → (a == b) ≡ false
+other_number a b e = grind (arith, common_steps)
+
+-- bytes that begin no input
+none_begins : {X : Type 0} (shape : Shape X) (max n : ℕ) (xs : List X) (status : Status) (r0 r1 t0 t1 : Option (List ℕ))
+    → Ran shape max n xs r0 r1 t0 t1 → n < max → NoneBegins shape xs r1 status
+    → IfSome r0 (λ bytes. Outcome shape max bytes (Appends t0 t1) (record { status = status; slots = n }))
+none_begins shape max n xs status None r1 t0 t1 ran below none = tt
+none_begins shape max n xs status (Some b) None t0 t1 ran below none = absurd ran.came
+none_begins shape max n xs status (Some b) (Some []) t0 t1 ran below none = absurd (omega arith)
+none_begins shape max n xs status (Some b) (Some (a ∷ m)) t0 t1 ran below none =
+    let fewer : length xs < max = omega (arith, ran.slots_is) in
+    record {
+      xs = xs;
+      rest = a ∷ m;
+      cut = record { whole = ran.came; each = ran.each; few = ran.few; longest = λ _. none.1 };
+      closes = subst (λ t. MatchBool t (status ≡ TooLong) (shape.Stops xs (a ∷ m) status)) (sym (other_number (length xs) max fewer)) none.2;
+      slots = ran.slots_is;
+      output = ran.wrote;
+    }
+
 -- what an answer of put_all says of the output
 pub all_written : {T E : Type 0} (r : Result T E) (t1 t2 : Option (List ℕ)) (bytes out : List ℕ) → OnOk r (Appends t1 t2 bytes) → is_err r ≡ false → bytes ≡ out → Appends t1 t2 out
 all_written (Ok u) t1 t2 bytes out h ok e = subst (Appends t1 t2) e h
@@ -149,7 +172,7 @@ some_written (Ok u) t1 t2 bytes out h err e = absurd (cc err)
 some_written (Err u) t1 t2 bytes out h err e = subst (AddsFront t1 t2) e h
 
 -- a read of one byte that fails took nothing
-pub one_byte : {X : Type 0} (shape : Shape X) (xs : List X) (r1 r2 : Option (List ℕ)) → TakesFewer r1 r2 1 → TakesPart shape xs r1 r2
+one_byte : {X : Type 0} (shape : Shape X) (xs : List X) (r1 r2 : Option (List ℕ)) → TakesFewer r1 r2 1 → TakesPart shape xs r1 r2
 one_byte shape xs None r2 fewer = tt
 one_byte shape xs (Some m) None fewer = tt
 one_byte shape xs (Some m) (Some r) ([], is, short) = ([], is, inl refl)
@@ -227,7 +250,7 @@ done_outcome shape max n xs status (Some b) (Some []) t0 t1 some ran none is = r
   output = ran.wrote;
 }
 
-pub done_front : {X : Type 0} (shape : Shape X) (max n : ℕ) (xs : List X) (status : Status) (r0 r1 r2 t0 t1 : Option (List ℕ))
+done_front : {X : Type 0} (shape : Shape X) (max n : ℕ) (xs : List X) (status : Status) (r0 r1 r2 t0 t1 : Option (List ℕ))
     → ((before : List X) (x : X) → shape.Fits before x → 0 < length (shape.spelling x)) → Ran shape max n xs r0 r1 t0 t1 → IsAtEnd r1 → status ≡ shape.done xs → IsEnd status
     → EndsBy status shape max r0 r2 (TookBefore status t0 t1) (record { status = status; slots = n })
 done_front shape max n xs Done r0 r1 r2 t0 t1 some ran none is quiet = done_outcome shape max n xs Done r0 r1 t0 t1 some ran none is
@@ -238,3 +261,26 @@ done_front shape max n xs Read r0 r1 r2 t0 t1 some ran none is quiet = absurd qu
 done_front shape max n xs Write r0 r1 r2 t0 t1 some ran none is quiet = absurd quiet
 done_front shape max n xs TooLong r0 r1 r2 t0 t1 some ran none is quiet = absurd quiet
 done_front shape max n xs NotBuilt r0 r1 r2 t0 t1 some ran none is quiet = absurd quiet
+
+-- the end where no input came
+pub stopped : {X : Type 0} (shape : Shape X) (max n : ℕ) (xs : List X) (stop : Stop) (last : Status) (r0 r1 r2 t0 t1 : Option (List ℕ)) (Stands : Type 0)
+    → ((before : List X) (x : X) → shape.Fits before x → 0 < length (shape.spelling x)) → Ran shape max n xs r0 r1 t0 t1 → n < max
+    → StopGives shape xs r1 r2 Stands stop → (Stands → last ≡ shape.done xs) → IsEnd last
+    → EndsBy (end_by stop last n).status shape max r0 r2 (TookBefore (end_by stop last n).status t0 t1) (end_by stop last n)
+stopped shape max n xs EndStop last r0 r1 r2 t0 t1 Stands some ran below gives is quiet = done_front shape max n xs last r0 r1 r2 t0 t1 some ran gives.1 (is gives.0) quiet
+stopped shape max n xs (Bad why) last r0 r1 r2 t0 t1 Stands some ran below gives is quiet =
+    none_begins shape max n xs (Input n why) r0 r1 t0 t1 ran below (subst (λ k. NoneBegins shape xs r1 (Input k why)) (sym ran.slots_is) gives)
+stopped shape max n xs NotBuiltStop last r0 r1 r2 t0 t1 Stands some ran below gives is quiet = none_begins shape max n xs NotBuilt r0 r1 t0 t1 ran below gives
+stopped shape max n xs More last r0 r1 r2 t0 t1 Stands some ran below gives is quiet = absurd gives
+stopped shape max n xs Fault last r0 r1 r2 t0 t1 Stands some ran below gives is quiet = read_front shape max n xs r0 r1 r2 t0 t1 some ran (inl (omega (arith, ran.slots_is))) gives
+
+-- the end behind the last slot
+pub passed : {X : Type 0} (shape : Shape X) (max n : ℕ) (xs : List X) (stop : Stop) (last : Status) (r0 r1 r2 t0 t1 : Option (List ℕ))
+    → ((before : List X) (x : X) → shape.Fits before x → 0 < length (shape.spelling x)) → Ran shape max n xs r0 r1 t0 t1 → max ≤ n
+    → PastGives r1 r2 stop → last ≡ shape.done xs → IsEnd last
+    → EndsBy (end_by stop last n).status shape max r0 r2 (TookBefore (end_by stop last n).status t0 t1) (end_by stop last n)
+passed shape max n xs EndStop last r0 r1 r2 t0 t1 some ran all gives is quiet = done_front shape max n xs last r0 r1 r2 t0 t1 some ran gives.0 is quiet
+passed shape max n xs (Bad why) last r0 r1 r2 t0 t1 some ran all gives is quiet = absurd gives
+passed shape max n xs NotBuiltStop last r0 r1 r2 t0 t1 some ran all gives is quiet = absurd gives
+passed shape max n xs More last r0 r1 r2 t0 t1 some ran all gives is quiet = too_long shape max n xs r0 r1 r2 t0 t1 gives.0 ran all gives.2 gives.1
+passed shape max n xs Fault last r0 r1 r2 t0 t1 some ran all gives is quiet = read_front shape max n xs r0 r1 r2 t0 t1 some ran (inr gives) (one_byte shape xs r1 r2 gives)

@@ -3,10 +3,11 @@ use Rattle.std.specs.Prelude.{◌≡◌, ℕ, List, [], ◌∷◌, ◌++◌, len
 use Rattle.tetra_settings.specs.declared.types.Settings.{Settings}
 use Rattle.tetra_engine.specs.declared.status.Status.{Status}
 use Rattle.tetra_engine.specs.declared.status.Status.TheVariants.{Done, Refused}
-use Rattle.tetra_engine.specs.declared.temporary.Front.{Front}
+use Rattle.tetra_session.specs.declared.front.Front.{Front}
+use Rattle.tetra_session.specs.Heard.{slot_front}
 use Rattle.tetra_engine.specs.declared.temporary.SlotVerdict.{SlotVerdict}
 use Rattle.tetra_engine.specs.declared.temporary.SlotVerdict.TheVariants.{Agrees}
-use Rattle.tetra_engine.specs.BelowReading.{front_of, claim_length, verdict_of}
+use Rattle.tetra_engine.specs.BelowReading.{claim_length, verdict_of}
 use Rattle.tetra_engine.specs.Framing.{is_built_slot, framing_stop}
 use Rattle.tetra_engine.specs.Shapes.{Shape}
 use Rattle.tetra_engine.specs.Slots.{soft_values}
@@ -22,7 +23,7 @@ slots_of inputs = map (λ input. soft_values input.0) inputs
 
 -- what a receiver behind the slots before takes from a slot
 abbrev pub front_at : Settings → List Claimed → List ℕ → Front
-front_at settings before slot = front_of settings (slots_of before) (soft_values slot)
+front_at settings before slot = slot_front settings (slots_of before) (soft_values slot)
 
 -- the verdict on a slot behind those before it
 abbrev pub verdict_at : Settings → List Claimed → Claimed → SlotVerdict

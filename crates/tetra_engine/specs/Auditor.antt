@@ -3,7 +3,7 @@ use Rattle.std.specs.Prelude.{◌≡◌, ◌<◌, ◌≤◌, ℕ, List, [], ◌�
 use Rattle.tetra_bits.specs.Soft.{AllSoft}
 use Rattle.tetra_settings.specs.Validity.{IsValid}
 use Rattle.tetra_engine.specs.declared.auditor.Auditor.{Auditor}
-use Rattle.tetra_engine.specs.BelowReceiver.{ReceiverStands}
+use Rattle.tetra_session.specs.Heard.{ReceiverStands}
 use Rattle.tetra_engine.specs.BelowReading.{claim_length, IsFramed}
 use Rattle.tetra_engine.specs.Auditing.{Claimed, slots_of, front_at, refused_slots}
 use Rattle.tetra_engine.specs.Refusals.{Counts}

@@ -1,5 +1,5 @@
 -- Stands elsewhere.
-use Rattle.std.specs.Prelude.{◌≡◌, ◌⊎◌, ℕ, ◌<◌, List, [], ◌∷◌, ◌++◌, length, ⊤, None, Some, Ok, Err, Result, IfSome, ℤ}
+use Rattle.std.specs.Prelude.{◌≡◌, ◌⊎◌, ℕ, ◌<◌, List, [], ◌∷◌, ◌++◌, length, ⊤, None, Some, Ok, Err, Result, IfSome}
 use Rattle.std.specs.Io.KnownBytes.{Consumes, IsAtEnd}
 use Rattle.std.specs.declared.option.Option.{Option}
 use Rattle.tetra_io.specs.Streams.{Rose}
@@ -39,6 +39,3 @@ abbrev pub RecordRose : ℕ → ℕ → Result (Option SlotBlocks) NextFault →
 RecordRose before now (Ok blocks) = Unit {0}
 RecordRose before now (Err (Source fault)) = Rose before now
 RecordRose before now (Err (Bad why)) = Unit {0}
-
-pub slot_values : Settings → List SlotBlocks → SlotBlocks → List ℤ
-slot_values settings before blocks = []

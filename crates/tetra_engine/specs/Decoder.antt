@@ -3,7 +3,7 @@ use Rattle.std.specs.Prelude.{◌≡◌, ◌<◌, ℕ, List, length, map, IsTrue
 use Rattle.tetra_bits.specs.Soft.{AllSoft}
 use Rattle.tetra_settings.specs.Validity.{IsValid}
 use Rattle.tetra_engine.specs.declared.decoder.Decoder.{Decoder}
-use Rattle.tetra_engine.specs.BelowReceiver.{ReceiverStands}
+use Rattle.tetra_session.specs.Heard.{ReceiverStands}
 use Rattle.tetra_engine.specs.Framing.{is_built_slot}
 use Rattle.tetra_engine.specs.Slots.{soft_values}
 

@@ -1,12 +1,14 @@
 -- What encoding reads and writes: block records, and slots of 510 bytes.
-use Rattle.std.specs.Prelude.{◌≡◌, ℕ, List, ◌++◌, length, IsTrue}
+use Rattle.std.specs.Prelude.{◌≡◌, ℕ, List, ◌++◌, length}
 use Rattle.tetra_settings.specs.declared.types.Settings.{Settings}
 use Rattle.tetra_settings.specs.declared.blocks.SlotBlocks.{SlotBlocks}
+use Rattle.tetra_settings.specs.Slots.{byte_of}
 use Rattle.tetra_settings.specs.Blocks.{Fits, letter_of}
+use Rattle.tetra_session.specs.Built.{IsBuiltLetter}
+use Rattle.tetra_session.specs.Sent.{slot_written}
 use Rattle.tetra_engine.specs.declared.status.Status.{Status}
 use Rattle.tetra_engine.specs.declared.status.Status.TheVariants.{Done, Input, NotBuilt}
-use Rattle.tetra_engine.specs.Below.{record_bytes, record_why, NoBlocks, slot_values}
-use Rattle.tetra_engine.specs.Built.{is_built_letter}
+use Rattle.tetra_engine.specs.Below.{record_bytes, record_why, NoBlocks}
 use Rattle.tetra_engine.specs.Shapes.{Shape}
 use Rattle.tetra_engine.specs.Slots.{slot_bytes}
 
@@ -20,9 +22,9 @@ EncodingStops settings n bytes status = ⊥
 -- an input is the record of blocks that fit their slot and whose letter is built
 abbrev pub encoding : Settings → Shape SlotBlocks
 encoding settings = record {
-  Fits = λ before blocks. Fits settings (length before) blocks × IsTrue (is_built_letter (letter_of blocks.body));
+  Fits = λ before blocks. Fits settings (length before) blocks × IsBuiltLetter (byte_of (letter_of blocks.body));
   spelling = record_bytes;
   Stops = λ before. EncodingStops settings (length before);
-  out = λ before blocks. slot_bytes (slot_values settings before blocks);
+  out = λ before blocks. slot_bytes (slot_written settings before blocks);
   done = λ _. Done;
 }

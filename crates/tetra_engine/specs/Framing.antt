@@ -4,13 +4,13 @@ use Rattle.tetra_settings.specs.declared.types.Settings.{Settings}
 use Rattle.tetra_engine.specs.declared.status.Status.{Status}
 use Rattle.tetra_engine.specs.declared.status.Status.TheVariants.{Input, NotBuilt}
 use Rattle.tetra_engine.specs.declared.temporary.RecordFault.TheVariants.{Truncated}
-use Rattle.tetra_engine.specs.BelowReading.{slot_letter}
-use Rattle.tetra_engine.specs.Built.{is_built_byte}
+use Rattle.tetra_session.specs.Built.{is_built_letter}
+use Rattle.tetra_session.specs.Heard.{slot_letter}
 use Rattle.tetra_engine.specs.Slots.{soft_values}
 
 -- whether the letter of slot n, read from these bytes, is built
 abbrev pub is_built_slot : Settings → ℕ → List ℕ → Bool
-is_built_slot settings n slot = is_built_byte (slot_letter settings n (soft_values slot))
+is_built_slot settings n slot = is_built_letter (slot_letter settings n (soft_values slot))
 
 -- how a run ends where bytes begin no built slot n, with what has to stand behind it
 abbrev pub framing_stop : Settings → ℕ → List ℕ → Status

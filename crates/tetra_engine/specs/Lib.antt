@@ -6,14 +6,13 @@ pub mod Verdicts
 pub mod Slots
 pub mod Built
 pub mod Below
-pub mod BelowSender
 pub mod Encoding
 pub mod Encoder
 pub mod BelowReading
-pub mod BelowReceiver
 pub mod Framing
 pub mod Decoding
 pub mod Decoder
 pub mod Auditing
 pub mod Refusals
 pub mod Auditor
+pub mod Running

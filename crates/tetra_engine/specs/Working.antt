@@ -1,12 +1,14 @@
 -- What a work over any shape reads, and what it has done so far.
-use Rattle.std.specs.Prelude.{◌≡◌, ℕ, ◌<◌, ◌≤◌, List, [], ◌++◌, length, ⊤, None, Some, IfSome}
+use Rattle.std.specs.Prelude.{◌≡◌, ℕ, ◌<◌, ◌≤◌, List, [], ◌++◌, length, ⊤, None, Some, IfSome, Ok, Err, Result}
 use Rattle.std.specs.Io.KnownBytes.{Consumes, Appends, IsAtEnd}
 use Rattle.std.specs.declared.option.Option.{Option}
 use Rattle.tetra_io.specs.Streams.{Rose}
+use Rattle.tetra_io.specs.Filling.{TakesFewer}
 use Rattle.tetra_engine.specs.declared.status.Status.{Status}
-use Rattle.tetra_engine.specs.declared.status.Status.TheVariants.{Input as InputStatus, NotBuilt as NotBuiltStatus}
-use Rattle.tetra_engine.specs.declared.work.Next.{Next}
-use Rattle.tetra_engine.specs.declared.work.Next.TheVariants.{Input, End, Bad, NotBuilt, Fault}
+use Rattle.tetra_engine.specs.declared.status.Status.TheVariants.{Input, Read, TooLong, NotBuilt as NotBuiltStatus}
+use Rattle.tetra_engine.specs.declared.status.End.{End as EndRecord}
+use Rattle.tetra_engine.specs.declared.work.Stop.{Stop}
+use Rattle.tetra_engine.specs.declared.work.Stop.TheVariants.{End, Bad, NotBuilt, More, Fault}
 use Rattle.tetra_engine.specs.Shapes.{Shape, AreInputs, spellings, outputs, NoInput}
 use Rattle.tetra_engine.specs.Outcomes.{IsPart}
 
@@ -20,18 +22,42 @@ TakesPart shape before None new = ⊤
 TakesPart shape before (Some bytes) None = ⊤
 TakesPart shape before (Some bytes) (Some rest) = (part : List ℕ) × (bytes ≡ part ++ rest) × IsPart shape before part
 
--- What reading an input behind these gives. Holds says that the work holds it, and Stands that it has not moved on.
-abbrev pub NextGives : {X : Type 0} → Shape X → List X → Option (List ℕ) → Option (List ℕ) → (X → Type 0) → Type 0 → Next → Type 0
-NextGives {X} shape before old new Holds Stands Input = (x : X) × Holds x × shape.Fits before x × Consumes old new (shape.spelling x)
-NextGives shape before old new Holds Stands End = Stands × IsAtEnd old × IsAtEnd new
-NextGives shape before old new Holds Stands (Bad why) = NoneBegins shape before old (InputStatus (length before) why)
-NextGives shape before old new Holds Stands NotBuilt = NoneBegins shape before old NotBuiltStatus
-NextGives shape before old new Holds Stands Fault = TakesPart shape before old new
+-- what it says that no input came behind these; Stands says that the work has not moved on
+abbrev pub StopGives : {X : Type 0} → Shape X → List X → Option (List ℕ) → Option (List ℕ) → Type 0 → Stop → Type 0
+StopGives shape before old new Stands End = Stands × IsAtEnd old × IsAtEnd new
+StopGives shape before old new Stands (Bad why) = NoneBegins shape before old (Input (length before) why)
+StopGives shape before old new Stands NotBuilt = NoneBegins shape before old NotBuiltStatus
+StopGives shape before old new Stands More = ⊥
+StopGives shape before old new Stands Fault = TakesPart shape before old new
+
+-- what reading an input behind these gives; Holds says that the work holds it
+abbrev pub ReadGives : {X : Type 0} → Shape X → List X → Option (List ℕ) → Option (List ℕ) → (X → Type 0) → Type 0 → Result (Unit {0}) Stop → Type 0
+ReadGives {X} shape before old new Holds Stands (Ok u) = (x : X) × Holds x × shape.Fits before x × Consumes old new (shape.spelling x)
+ReadGives shape before old new Holds Stands (Err stop) = StopGives shape before old new Stands stop
+
+-- what stands behind the last slot that may be read
+abbrev pub PastGives : Option (List ℕ) → Option (List ℕ) → Stop → Type 0
+PastGives old new End = IsAtEnd old × IsAtEnd new
+PastGives old new More = (byte : List ℕ) × (length byte ≡ 1) × Consumes old new byte
+PastGives old new Fault = TakesFewer old new 1
+PastGives old new stop = ⊥
 
 -- a failed read has its cause
-abbrev pub NextRose : ℕ → ℕ → Next → Type 0
-NextRose before now Fault = Rose before now
-NextRose before now next = Unit {0}
+abbrev pub StopRose : ℕ → ℕ → Stop → Type 0
+StopRose before now Fault = Rose before now
+StopRose before now stop = Unit {0}
+
+abbrev pub ReadRose : ℕ → ℕ → Result (Unit {0}) Stop → Type 0
+ReadRose before now (Ok u) = Unit {0}
+ReadRose before now (Err stop) = StopRose before now stop
+
+-- the end of a run, by why no input came and the status at the end of the input
+abbrev pub end_by : Stop → Status → ℕ → EndRecord
+end_by End status slots = record { status = status; slots = slots }
+end_by (Bad why) status slots = record { status = Input slots why; slots = slots }
+end_by NotBuilt status slots = record { status = NotBuiltStatus; slots = slots }
+end_by More status slots = record { status = TooLong; slots = slots }
+end_by Fault status slots = record { status = Read; slots = slots }
 
 -- inputs were read and their outputs written
 pub record Ran {X : Type 0} (shape : Shape X) (max slots : ℕ) (xs : List X) (rest0 rest1 taken0 taken1 : Option (List ℕ)) : Type 0 where

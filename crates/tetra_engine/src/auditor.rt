@@ -1,16 +1,18 @@
 // An audit as a work over slots.
 ghost use Rattle.std.specs.Prelude.{◌≡◌, ◌<◌, ◌≤◌, length, List, ℕ, [], take};
 ghost use Rattle.tetra_settings.specs.Validity.{IsValid};
+ghost use Rattle.tetra_session.specs.Built.{IsBuilt};
 ghost use Rattle.tetra_engine.specs.Auditing.{auditing, Claimed};
 
-use crate::decoder::is_built_slot;
 use crate::refusals::Refusals;
 use crate::slots::read_values;
 use crate::status::Status;
-use crate::temporary::{Front, Receiver, RecordFault, audit_slot, claim_len};
+use crate::temporary::{RecordFault, audit_slot, claim_len};
 use crate::verdicts::line_of_slot;
-use crate::work::{Next, Work};
+use crate::work::{Stop, Work};
+use arrayvec::ArrayVec;
 use tetra_io::{Filled, Sink, SinkFault, Source, fill, put_all};
+use tetra_session::{Front, Receiver, is_built_letter};
 use tetra_settings::Settings;
 
 /// An audit: the slot that was read last with the record that is claimed for it, and what a receiver takes from the
@@ -33,7 +35,8 @@ impl Auditor {
 
     /// An audit before the first slot.
     pub fn new(settings: &Settings) -> Auditor
-        requires { IsValid settings.now }
+        requires valid { IsValid settings.now }
+        requires built { IsBuilt settings.now }
         ensures stands { AuditorStands result [] }
         ensures settings { result.settings ≡ settings.now }
     {
@@ -44,7 +47,10 @@ impl Auditor {
             slot: 0,
             bytes: [0; 510],
             soft: [0; 510],
-            front: Front { letter: 0 },
+            front: Front {
+                letter: 0,
+                fields: ArrayVec::new(),
+            },
             claim: [0; 18_743],
             len: 0,
         }
@@ -67,24 +73,24 @@ impl Work for Auditor {
 
     ghost some = { λ settings before x fits. Prim.omega (arith, length-append x.0 x.1) };
 
-    fn read<S: Source>(&mut self, src: &mut S, slot: u32) -> Next {
+    fn read<S: Source>(&mut self, src: &mut S, slot: u32) -> Result<(), Stop> {
         match fill(src, &mut self.bytes) {
             Filled::Whole => {}
-            Filled::Ended(0) => return Next::End,
-            Filled::Ended(_) => return Next::Bad(RecordFault::Truncated),
-            Filled::Fault => return Next::Fault,
+            Filled::Ended(0) => return Err(Stop::End),
+            Filled::Ended(_) => return Err(Stop::Bad(RecordFault::Truncated)),
+            Filled::Fault => return Err(Stop::Fault),
         }
         read_values(&self.bytes, &mut self.soft);
-        if !is_built_slot(self.receiver.letter(&self.soft)) {
-            return Next::NotBuilt;
+        if !is_built_letter(self.receiver.letter(&self.soft)) {
+            return Err(Stop::NotBuilt);
         }
         self.slot = slot;
-        self.receiver.read_front(&self.soft, &mut self.front);
+        self.receiver.front_into(&self.soft, &mut self.front);
         self.len = claim_len(&self.front);
         match fill(src, &mut self.claim[..self.len]) {
-            Filled::Whole => Next::Input,
-            Filled::Ended(_) => Next::Bad(RecordFault::Truncated),
-            Filled::Fault => Next::Fault,
+            Filled::Whole => Ok(()),
+            Filled::Ended(_) => Err(Stop::Bad(RecordFault::Truncated)),
+            Filled::Fault => Err(Stop::Fault),
         }
     }
 

@@ -1,17 +1,18 @@
 // Decoding as a work over slots.
 ghost use Rattle.std.specs.Prelude.{◌≡◌, ◌<◌, ◌≤◌, length, List, ℕ, []};
 ghost use Rattle.tetra_settings.specs.Validity.{IsValid};
-ghost use Rattle.tetra_engine.specs.Built.{is_built_byte};
+ghost use Rattle.tetra_session.specs.Built.{IsBuilt};
 ghost use Rattle.tetra_engine.specs.Decoding.{decoding, framed};
 ghost use Rattle.tetra_engine.specs.BelowReading.{reading_bytes};
 
 use crate::slots::read_values;
 use crate::status::Status;
-use crate::temporary::{Receiver, RecordFault, SlotReading, add_reading};
-use crate::work::{Next, Work};
+use crate::temporary::{RecordFault, add_reading};
+use crate::work::{Stop, Work};
 use arrayvec::ArrayVec;
 use tetra_io::{Filled, Sink, SinkFault, Source, fill, put_all};
-use tetra_settings::{Form, Settings};
+use tetra_session::{Receiver, is_built_letter};
+use tetra_settings::{Form, Settings, SlotReading};
 
 /// Decoding: the slot that was read last, the receiver that it goes to, and the reading, which is used again for each
 /// slot.
@@ -25,19 +26,13 @@ pub struct Decoder {
     output: ArrayVec<u8, 19_253>,
 }
 
-/// Whether slots with the letter of this byte are built.
-pub fn is_built_slot(letter: u8) -> bool
-    ensures { result ≡ is_built_byte letter }
-{
-    letter == b'F' || letter == b'T'
-}
-
 impl Decoder {
     ghost use Rattle.tetra_engine.specs.Decoder.{DecoderStands};
 
     /// A decoder before the first slot.
     pub fn new(settings: &Settings) -> Decoder
-        requires { IsValid settings.now }
+        requires valid { IsValid settings.now }
+        requires built { IsBuilt settings.now }
         ensures stands { DecoderStands result [] }
         ensures settings { result.settings ≡ settings.now }
     {
@@ -46,7 +41,10 @@ impl Decoder {
             receiver: Receiver::new(settings),
             bytes: [0; 510],
             soft: [0; 510],
-            reading: SlotReading { letter: 0 },
+            reading: SlotReading {
+                letter: 0,
+                fields: ArrayVec::new(),
+            },
             output: ArrayVec::new(),
         }
     }
@@ -68,23 +66,22 @@ impl Work for Decoder {
 
     ghost some = { λ settings before x fits. Prim.omega arith };
 
-    fn read<S: Source>(&mut self, src: &mut S, slot: u32) -> Next {
+    fn read<S: Source>(&mut self, src: &mut S, slot: u32) -> Result<(), Stop> {
         match fill(src, &mut self.bytes) {
             Filled::Whole => {}
-            Filled::Ended(0) => return Next::End,
-            Filled::Ended(_) => return Next::Bad(RecordFault::Truncated),
-            Filled::Fault => return Next::Fault,
+            Filled::Ended(0) => return Err(Stop::End),
+            Filled::Ended(_) => return Err(Stop::Bad(RecordFault::Truncated)),
+            Filled::Fault => return Err(Stop::Fault),
         }
         read_values(&self.bytes, &mut self.soft);
-        if is_built_slot(self.receiver.letter(&self.soft)) {
-            Next::Input
-        } else {
-            Next::NotBuilt
+        if !is_built_letter(self.receiver.letter(&self.soft)) {
+            return Err(Stop::NotBuilt);
         }
+        Ok(())
     }
 
     fn write<K: Sink>(&mut self, sink: &mut K) -> Result<(), SinkFault> {
-        self.receiver.read_slot(&self.soft, &mut self.reading);
+        self.receiver.slot_into(&self.soft, &mut self.reading);
         put_reading(
             &self.bytes,
             &self.reading,

@@ -2,15 +2,16 @@
 ghost use Rattle.std.specs.Prelude.{◌≡◌, ◌<◌, ◌≤◌, length, List, Some, []};
 ghost use Rattle.tetra_settings.specs.declared.blocks.SlotBlocks.{SlotBlocks};
 ghost use Rattle.tetra_settings.specs.Validity.{IsValid};
+ghost use Rattle.tetra_session.specs.Built.{IsBuilt};
 ghost use Rattle.tetra_engine.specs.Encoding.{encoding};
-ghost use Rattle.tetra_engine.specs.Built.{is_built_letter};
 
 use crate::slots::write_values;
 use crate::status::Status;
-use crate::temporary::{NextFault, Sender, next_record};
-use crate::work::{Next, Work};
+use crate::temporary::{NextFault, next_record};
+use crate::work::{Stop, Work};
 use tetra_io::{Sink, SinkFault, Source, put_all};
-use tetra_settings::{Letter, Settings, SlotBlocks};
+use tetra_session::{Sender, is_built_letter};
+use tetra_settings::{Settings, SlotBlocks};
 
 /// Encoding: the blocks of the slot that was read last, and the sender that they go to.
 #[derive(Drop)]
@@ -21,19 +22,13 @@ pub struct Encoder {
     bytes: [u8; 510],
 }
 
-/// Whether slots with this letter are built.
-pub fn is_built(letter: Letter) -> bool
-    ensures { result ≡ is_built_letter letter }
-{
-    matches!(letter, Letter::F | Letter::T)
-}
-
 impl Encoder {
     ghost use Rattle.tetra_engine.specs.Encoder.{EncoderStands};
 
     /// An encoder before the first slot.
     pub fn new(settings: &Settings) -> Encoder
-        requires { IsValid settings.now }
+        requires valid { IsValid settings.now }
+        requires built { IsBuilt settings.now }
         ensures stands { EncoderStands result [] }
         ensures settings { result.settings ≡ settings.now }
     {
@@ -62,18 +57,18 @@ impl Work for Encoder {
 
     ghost some = { λ settings before x fits. Prim.omega arith };
 
-    fn read<S: Source>(&mut self, src: &mut S, slot: u32) -> Next {
+    fn read<S: Source>(&mut self, src: &mut S, slot: u32) -> Result<(), Stop> {
         match next_record(src, &self.settings, slot) {
             Ok(Some(blocks)) => {
-                if !is_built(blocks.body.letter()) {
-                    return Next::NotBuilt;
+                if !is_built_letter(blocks.body.letter().byte()) {
+                    return Err(Stop::NotBuilt);
                 }
                 self.blocks = Some(blocks);
-                Next::Input
+                Ok(())
             }
-            Ok(None) => Next::End,
-            Err(NextFault::Bad(why)) => Next::Bad(why),
-            Err(NextFault::Source(_)) => Next::Fault,
+            Ok(None) => Err(Stop::End),
+            Err(NextFault::Bad(why)) => Err(Stop::Bad(why)),
+            Err(NextFault::Source(_)) => Err(Stop::Fault),
         }
     }
 

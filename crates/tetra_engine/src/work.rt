@@ -6,24 +6,24 @@ ghost use Rattle.tetra_io.specs.Filling.{AddsFront};
 ghost use Rattle.tetra_settings.specs.declared.types.Settings.{Settings};
 ghost use Rattle.tetra_engine.specs.Shapes.{Shape};
 ghost use Rattle.tetra_engine.specs.Outcomes.{EndsBy, TookBefore, IsEnd, Grows};
-ghost use Rattle.tetra_engine.specs.Working.{NextGives, NextRose};
+ghost use Rattle.tetra_engine.specs.Working.{ReadGives, ReadRose, StopRose, PastGives, end_by};
 
 use crate::status::{End, Status};
 use crate::temporary::RecordFault;
 use tetra_io::{Filled, Sink, SinkFault, Source, fill};
 use tetra_settings::Settings;
 
-/// What came next from a source.
+/// Why no input came.
 #[derive(Clone, Copy, Debug, PartialEq, Eq)]
-pub enum Next {
-    /// The input of a slot, which the work holds.
-    Input,
-    /// The end, before the first byte of a slot.
+pub enum Stop {
+    /// The input ended before the first byte of a slot.
     End,
     /// Bytes that are no input of the slot.
     Bad(RecordFault),
     /// An input whose letter is not built yet.
     NotBuilt,
+    /// A byte behind the last slot that may be read.
+    More,
     /// A read failed.
     Fault,
 }
@@ -45,14 +45,14 @@ pub trait Work {
     /// The work has read and written these inputs, and holds the next one.
     ghost holds: { Self → List Input → Input → Type 0 };
 
-    /// Reads the input of the slot behind those that were read.
-    fn read<S: Source>(&mut self, src: &mut S, slot: u32) -> Next
+    /// Reads the input of the slot behind those that were read, and holds it.
+    fn read<S: Source>(&mut self, src: &mut S, slot: u32) -> Result<(), Stop>
         requires slot { slot < 16777216 }
         requires stands { (xs : List Input) × stands self.old xs × (slot ≡ length xs) }
-        ensures gives { (xs : List Input) → stands self.old xs → slot ≡ length xs → NextGives (shape (settings self.old)) xs (S.rest src.old) (S.rest src.new) (holds self.new xs) (stands self.new xs) result }
+        ensures gives { (xs : List Input) → stands self.old xs → slot ≡ length xs → ReadGives (shape (settings self.old)) xs (S.rest src.old) (S.rest src.new) (holds self.new xs) (stands self.new xs) result }
         ensures settings { settings self.new ≡ settings self.old }
         ensures later { S.faults src.old ≤ S.faults src.new }
-        ensures cause { NextRose (S.faults src.old) (S.faults src.new) result };
+        ensures cause { ReadRose (S.faults src.old) (S.faults src.new) result };
 
     /// Writes the output of the input that it holds.
     fn write<K: Sink>(&mut self, sink: &mut K) -> Result<(), SinkFault>
@@ -85,59 +85,46 @@ pub fn drive<W: Work, S: Source, K: Sink>(work: &mut W, max: u32, src: &mut S, s
 {
     let mut slots = 0;
     while slots < max {
-        match work.read(src, slots) {
-            Next::Input => {
-                if work.write(sink).is_err() {
-                    return End {
-                        status: Status::Write,
-                        slots: slots as u64,
-                    };
-                }
-                slots += 1;
-            }
-            Next::End => {
-                return End {
-                    status: work.end(),
-                    slots: slots as u64,
-                };
-            }
-            Next::Bad(why) => {
-                return End {
-                    status: Status::Input {
-                        slot: slots as u64,
-                        why,
-                    },
-                    slots: slots as u64,
-                };
-            }
-            Next::NotBuilt => {
-                return End {
-                    status: Status::NotBuilt,
-                    slots: slots as u64,
-                };
-            }
-            Next::Fault => {
-                return End {
-                    status: Status::Read,
-                    slots: slots as u64,
-                };
-            }
+        if let Err(stop) = work.read(src, slots) {
+            return ended(stop, work.end(), slots);
         }
+        if work.write(sink).is_err() {
+            return End {
+                status: Status::Write,
+                slots: slots as u64,
+            };
+        }
+        slots += 1;
     }
+    ended(past_last(src), work.end(), slots)
+}
+
+/// What stands behind the last slot that may be read.
+fn past_last<S: Source>(src: &mut S) -> Stop
+    ensures gives { PastGives (S.rest src.old) (S.rest src.new) result }
+    ensures later { S.faults src.old ≤ S.faults src.new }
+    ensures cause { StopRose (S.faults src.old) (S.faults src.new) result }
+{
     match fill(src, &mut [0]) {
-        Filled::Whole => End {
-            status: Status::TooLong,
-            slots: slots as u64,
-        },
-        Filled::Ended(_) => End {
-            status: work.end(),
-            slots: slots as u64,
-        },
-        Filled::Fault => End {
-            status: Status::Read,
-            slots: slots as u64,
-        },
+        Filled::Whole => Stop::More,
+        Filled::Ended(_) => Stop::End,
+        Filled::Fault => Stop::Fault,
     }
+}
+
+/// The end of a run, by why no input came and the status at the end of the input.
+fn ended(stop: Stop, at_end: Status, slots: u32) -> End
+    ensures { result ≡ end_by stop at_end slots }
+{
+    let slots = slots as u64;
+    let status = match stop {
+        Stop::End => at_end,
+        Stop::Bad(why) => Status::Input { slot: slots, why },
+        Stop::NotBuilt => Status::NotBuilt,
+        Stop::More => Status::TooLong,
+        Stop::Fault => Status::Read,
+    };
+    End { status, slots }
 }
 
 /// The loop, and behind it one flush where no write failed.

@@ -3,3 +3,6 @@ pub mod BuiltLemmas
 pub mod Fitting
 pub mod OneField
 pub mod Answering
+pub mod ApartLemmas
+pub mod SlotsArriving
+pub mod FieldLemmas

@@ -4,3 +4,6 @@ pub mod Built
 pub mod Time
 pub mod Sent
 pub mod Heard
+pub mod Apart
+pub mod Arrives
+pub mod Fronts

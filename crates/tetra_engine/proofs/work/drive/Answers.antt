@@ -1,16 +1,16 @@
-use Rattle.std.proofs.Common.{rules, ◌≡◌, arith, inl, inr, [], ◌∷◌, ◌++◌, subst, refl, ◌∙◌, OnOk, OnErr, ◌<◌, length}
+use Rattle.std.proofs.Common.{rules, ◌≡◌, arith, [], ◌∷◌, ◌++◌, subst, refl, sym, ap, ◌∙◌, OnOk, OnErr, Ok, Err}
 use Rattle.std.specs.Io.KnownBytes.{Appends}
-use Rattle.tetra_io.specs.Filling.{TakesFewer, AddsFront}
-use Rattle.tetra_engine.specs.Working.{NextGives}
-use Rattle.tetra_engine.specs.declared.work.Next.TheVariants.{Input, End, Fault}
-use Rattle.tetra_engine.proofs.Runs.{ran_on, done_front, read_front, write_front, too_long, all_written, some_written, one_byte}
+use Rattle.tetra_io.specs.Filling.{AddsFront}
+use Rattle.tetra_engine.specs.Working.{ReadGives}
+use Rattle.tetra_engine.specs.Outcomes.{EndsBy, TookBefore}
+use Rattle.tetra_engine.proofs.Runs.{ran_on, stopped, passed, write_front, all_written, some_written}
 use Rattle.tetra_engine.proofs.work.drive.Goals as goal
 
 pub loop-slots-preserved : goal.loop-slots-preserved
 loop-slots-preserved g c =
     let going = c.loop-slots.invariant in
     let shape = g.W.Work.shape (g.W.Work.settings c.args.work.now) in
-    let (x, holds, fits, more) = subst (λ s. NextGives (g.W.Work.shape s) going.xs (g.S.Source.rest c.loop-slots.src) (g.S.Source.rest c.read.new.src) (g.W.Work.holds c.read.new.self going.xs) (g.W.Work.stands c.read.new.self going.xs) Input) going.settings (c.in-Input.ensures.gives going.xs going.stands going.ran.slots_is) in
+    let (x, holds, fits, more) = subst (λ s. ReadGives (g.W.Work.shape s) going.xs (g.S.Source.rest c.loop-slots.src) (g.S.Source.rest c.read.new.src) (g.W.Work.holds c.read.new.self going.xs) (g.W.Work.stands c.read.new.self going.xs) (Ok tt)) going.settings (c.in_default.ensures.gives going.xs going.stands going.ran.slots_is) in
     let same = c.read.ensures.settings ∙ going.settings in
     let wrote = subst (λ s. OnOk c.write.result (Appends (g.K.Sink.taken c.loop-slots.sink) (g.K.Sink.taken c.write.new.sink) ((g.W.Work.shape s).out going.xs x))) same (c.write.ensures.ok going.xs x holds) in
     record {
@@ -27,29 +27,31 @@ pub returns-then-is_err-clause-ends : goal.returns-then-is_err-clause-ends
 returns-then-is_err-clause-ends g c =
     let going = c.loop-slots.invariant in
     let shape = g.W.Work.shape (g.W.Work.settings c.args.work.now) in
-    let (x, holds, fits, more) = subst (λ s. NextGives (g.W.Work.shape s) going.xs (g.S.Source.rest c.loop-slots.src) (g.S.Source.rest c.read.new.src) (g.W.Work.holds c.read.new.self going.xs) (g.W.Work.stands c.read.new.self going.xs) Input) going.settings (c.in-Input.ensures.gives going.xs going.stands going.ran.slots_is) in
+    let (x, holds, fits, more) = subst (λ s. ReadGives (g.W.Work.shape s) going.xs (g.S.Source.rest c.loop-slots.src) (g.S.Source.rest c.read.new.src) (g.W.Work.holds c.read.new.self going.xs) (g.W.Work.stands c.read.new.self going.xs) (Ok tt)) going.settings (c.in_default.ensures.gives going.xs going.stands going.ran.slots_is) in
     let same = c.read.ensures.settings ∙ going.settings in
     let wrote = subst (λ s. OnErr c.write.result (AddsFront (g.K.Sink.taken c.loop-slots.sink) (g.K.Sink.taken c.write.new.sink) ((g.W.Work.shape s).out going.xs x))) same (c.write.ensures.err going.xs x holds) in
     write_front shape c.args.max c.loop-slots.slots going.xs x (g.S.Source.rest c.args.src.now) (g.S.Source.rest c.loop-slots.src) (g.S.Source.rest c.read.new.src) (g.K.Sink.taken c.args.sink.now) (g.K.Sink.taken c.loop-slots.sink) (g.K.Sink.taken c.write.new.sink)
     going.ran (omega (arith, going.ran.slots_is)) fits more (some_written c.write.result _ _ _ _ wrote (search rules) refl)
 
-pub returns-in-End-clause-ends : goal.returns-in-End-clause-ends
-returns-in-End-clause-ends g c =
+pub returns-in-Err-clause-ends : goal.returns-in-Err-clause-ends
+returns-in-Err-clause-ends g c =
     let going = c.loop-slots.invariant in
     let settings = g.W.Work.settings c.args.work.now in
-    let (stands, left, _) = c.in-End.ensures.gives going.xs going.stands going.ran.slots_is in
+    let rest0 = g.S.Source.rest c.args.src.now in
+    let taken0 = g.K.Sink.taken c.args.sink.now in
+    let gives = subst (λ s. ReadGives (g.W.Work.shape s) going.xs (g.S.Source.rest c.loop-slots.src) (g.S.Source.rest c.read.new.src) (g.W.Work.holds c.read.new.self going.xs) (g.W.Work.stands c.read.new.self going.xs) (Err c.in-Err.stop)) going.settings (c.in-Err.ensures.gives going.xs going.stands going.ran.slots_is) in
     let same = c.read.ensures.settings ∙ going.settings in
-    let is = subst (λ s. c.end.result ≡ (g.W.Work.shape s).done going.xs) same (c.end.ensures.status going.xs stands) in
-    done_front (g.W.Work.shape settings) c.args.max c.loop-slots.slots going.xs c.end.result _ _ _ _ _ (g.met.W.Work.some settings) going.ran left is c.end.ensures.quiet
+    let is : g.W.Work.stands c.read.new.self going.xs → c.end.result ≡ (g.W.Work.shape settings).done going.xs =
+    λ stands. subst (λ s. c.end.result ≡ (g.W.Work.shape s).done going.xs) same (c.end.ensures.status going.xs stands) in
+    subst (λ e. EndsBy e.status (g.W.Work.shape settings) c.args.max rest0 (g.S.Source.rest c.read.new.src) (TookBefore e.status taken0 (g.K.Sink.taken c.loop-slots.sink)) e) (sym c.ended.ensures)
+    (stopped (g.W.Work.shape settings) c.args.max c.loop-slots.slots going.xs c.in-Err.stop c.end.result _ _ _ _ _ _ (g.met.W.Work.some settings) going.ran c.loop-slots-test.true gives is c.end.ensures.quiet)
 
-pub returns-in-Fault-clause-ends : goal.returns-in-Fault-clause-ends
-returns-in-Fault-clause-ends g c =
+pub returns-clause-ends : goal.returns-clause-ends
+returns-clause-ends g c =
     let going = c.loop-slots.invariant in
     let settings = g.W.Work.settings c.args.work.now in
-    let gives = subst (λ s. NextGives (g.W.Work.shape s) going.xs (g.S.Source.rest c.loop-slots.src) (g.S.Source.rest c.read.new.src) (g.W.Work.holds c.read.new.self going.xs) (g.W.Work.stands c.read.new.self going.xs) Fault) going.settings (c.in-Fault.ensures.gives going.xs going.stands going.ran.slots_is) in
-    read_front (g.W.Work.shape settings) c.args.max c.loop-slots.slots going.xs _ _ _ _ _ (g.met.W.Work.some settings) going.ran (inl (omega (arith, going.ran.slots_is))) gives
-
-pub returns-in-Whole-clause-ends : goal.returns-in-Whole-clause-ends
-returns-in-Whole-clause-ends g c =
-    let going = c.loop-slots.invariant in
-    too_long (g.W.Work.shape (g.W.Work.settings c.args.work.now)) c.args.max c.loop-slots.slots going.xs _ _ _ _ _ c.fill.new.buf going.ran c.loop-slots-test.false c.in-Whole.ensures.bytes (search rules)
+    let rest0 = g.S.Source.rest c.args.src.now in
+    let taken0 = g.K.Sink.taken c.args.sink.now in
+    let is = subst (λ s. c.end-2.result ≡ (g.W.Work.shape s).done going.xs) going.settings (c.end-2.ensures.status going.xs going.stands) in
+    subst (λ e. EndsBy e.status (g.W.Work.shape settings) c.args.max rest0 (g.S.Source.rest c.past_last.new.src) (TookBefore e.status taken0 (g.K.Sink.taken c.loop-slots.sink)) e) (sym c.ended-2.ensures)
+    (passed (g.W.Work.shape settings) c.args.max c.loop-slots.slots going.xs c.past_last.result c.end-2.result _ _ _ _ _ (g.met.W.Work.some settings) going.ran c.loop-slots-test.false c.past_last.ensures.gives is c.end-2.ensures.quiet)

@@ -2,9 +2,9 @@ use Rattle.std.proofs.Common.{rules, arith, ◌≡◌, ◌<◌, ◌∙◌, ap, s
 use Rattle.tetra_io.specs.Filling.{TakesFewer}
 use Rattle.std.specs.Io.KnownBytes.{Consumes}
 use Rattle.std.proofs.KnownBytes.{Consumes-trans}
-use Rattle.tetra_engine.specs.BelowReceiver.{ReceiverStands}
-use Rattle.tetra_engine.specs.BelowReading.{slot_letter, claim_length, front_of}
-use Rattle.tetra_engine.specs.Built.{is_built_byte}
+use Rattle.tetra_session.specs.Heard.{ReceiverStands, slot_letter, slot_front}
+use Rattle.tetra_session.specs.Built.{is_built_letter}
+use Rattle.tetra_engine.specs.BelowReading.{claim_length}
 use Rattle.tetra_engine.specs.Framing.{is_built_slot}
 use Rattle.tetra_engine.specs.Auditing.{auditing, slots_of, front_at}
 use Rattle.tetra_engine.proofs.Fronts.{ended_behind, fault_behind, IsShort}
@@ -12,19 +12,19 @@ use Rattle.tetra_engine.proofs.Framed.{take_front}
 use Rattle.tetra_engine.proofs.Audited.{unbuilt_claimed, letter_same, short_claim, refused_few, counts_number}
 use Rattle.tetra_engine.proofs.auditor.AuditorWork.read.Goals as goal
 
-pub returns-then-not-is_built_slot-clause-gives : goal.returns-then-not-is_built_slot-clause-gives
-returns-then-not-is_built_slot-clause-gives g c xs stands slot =
+pub returns-then-not-is_built_letter-clause-gives : goal.returns-then-not-is_built_letter-clause-gives
+returns-then-not-is_built_letter-clause-gives g c xs stands slot =
     let settings = c.args.self.now.settings in
     let letter = c.letter.ensures ∙ letter_same settings xs c.args.self.now.receiver c.read_values.new.soft stands.receiver ∙ ap (slot_letter settings (length xs)) c.read_values.ensures.values in
-    let unbuilt : is_built_slot settings (length xs) c.fill.new.buf ≡ false = ap is_built_byte (sym letter) ∙ sym c.is_built_slot.ensures ∙ search rules in
+    let unbuilt : is_built_slot settings (length xs) c.fill.new.buf ≡ false = ap is_built_letter (sym letter) ∙ sym c.is_built_letter.ensures ∙ search rules in
     unbuilt_claimed settings xs c.fill.new.buf _ _ (search rules) unbuilt c.in-Whole.ensures.bytes
 
 pub returns-in-Ended-fill-clause-gives : goal.returns-in-Ended-fill-clause-gives
 returns-in-Ended-fill-clause-gives g c xs stands slot =
     let settings = c.args.self.now.settings in
     let letter = c.letter.ensures ∙ letter_same settings xs c.args.self.now.receiver c.read_values.new.soft stands.receiver ∙ ap (slot_letter settings (length xs)) c.read_values.ensures.values in
-    let built : is_built_slot settings (length xs) c.fill.new.buf ≡ true = ap is_built_byte (sym letter) ∙ sym c.is_built_slot.ensures ∙ search rules in
-    let front = c.read_front.ensures.front settings (slots_of xs) stands.receiver ∙ ap (front_of settings (slots_of xs)) c.read_values.ensures.values in
+    let built : is_built_slot settings (length xs) c.fill.new.buf ≡ true = ap is_built_letter (sym letter) ∙ sym c.is_built_letter.ensures ∙ search rules in
+    let front = c.front_into.ensures.front settings (slots_of xs) stands.receiver ∙ ap (slot_front settings (slots_of xs)) c.read_values.ensures.values in
     let len = c.claim_len-self.ensures.length ∙ ap claim_length front in
     let short = short_claim settings xs c.fill.new.buf c.claim_len-self.result (search rules) built len in
     ended_behind (auditing settings) xs c.fill.new.buf c.claim_len-self.result _ c.fill-2.new.buf _ _ _ short c.in-Whole.ensures.bytes c.in-Ended-fill.ensures.bytes (search rules) (omega arith)
@@ -33,8 +33,8 @@ pub returns-in-Fault-fill-clause-gives : goal.returns-in-Fault-fill-clause-gives
 returns-in-Fault-fill-clause-gives g c xs stands slot =
     let settings = c.args.self.now.settings in
     let letter = c.letter.ensures ∙ letter_same settings xs c.args.self.now.receiver c.read_values.new.soft stands.receiver ∙ ap (slot_letter settings (length xs)) c.read_values.ensures.values in
-    let built : is_built_slot settings (length xs) c.fill.new.buf ≡ true = ap is_built_byte (sym letter) ∙ sym c.is_built_slot.ensures ∙ search rules in
-    let front = c.read_front.ensures.front settings (slots_of xs) stands.receiver ∙ ap (front_of settings (slots_of xs)) c.read_values.ensures.values in
+    let built : is_built_slot settings (length xs) c.fill.new.buf ≡ true = ap is_built_letter (sym letter) ∙ sym c.is_built_letter.ensures ∙ search rules in
+    let front = c.front_into.ensures.front settings (slots_of xs) stands.receiver ∙ ap (slot_front settings (slots_of xs)) c.read_values.ensures.values in
     let len = c.claim_len-self.ensures.length ∙ ap claim_length front in
     let short = short_claim settings xs c.fill.new.buf c.claim_len-self.result (search rules) built len in
     let size : length c.fill-2.new.buf ≡ c.claim_len-self.result = search rules in
@@ -44,23 +44,22 @@ pub returns-in-Whole-fill-clause-gives : goal.returns-in-Whole-fill-clause-gives
 returns-in-Whole-fill-clause-gives g c xs stands slot =
     let settings = c.args.self.now.settings in
     let letter = c.letter.ensures ∙ letter_same settings xs c.args.self.now.receiver c.read_values.new.soft stands.receiver ∙ ap (slot_letter settings (length xs)) c.read_values.ensures.values in
-    let built : is_built_slot settings (length xs) c.fill.new.buf ≡ true = ap is_built_byte (sym letter) ∙ sym c.is_built_slot.ensures ∙ search rules in
-    let front = c.read_front.ensures.front settings (slots_of xs) stands.receiver ∙ ap (front_of settings (slots_of xs)) c.read_values.ensures.values in
+    let built : is_built_slot settings (length xs) c.fill.new.buf ≡ true = ap is_built_letter (sym letter) ∙ sym c.is_built_letter.ensures ∙ search rules in
+    let front = c.front_into.ensures.front settings (slots_of xs) stands.receiver ∙ ap (slot_front settings (slots_of xs)) c.read_values.ensures.values in
     let len = c.claim_len-self.ensures.length ∙ ap claim_length front in
-    let next = c.read_front.ensures.stands settings (slots_of xs) stands.receiver in
+    let next = c.front_into.ensures.stands settings (slots_of xs) stands.receiver in
     let size : length c.fill-2.new.buf ≡ c.claim_len-self.result = search rules in
     let few = refused_few settings [] xs in
-    let count = counts_number c.args.self.now.refusals _ stands.refusals in
-    (
+    let count = counts_number c.args.self.now.refusals _ stands.refusals in (
       (c.fill.new.buf, c.fill-2.new.buf),
       record {
         valid = stands.valid;
-        receiver = subst (λ v. ReceiverStands settings (slots_of xs ++ v ∷ []) c.read_front.new.self) c.read_values.ensures.values next;
+        receiver = subst (λ v. ReceiverStands settings (slots_of xs ++ v ∷ []) c.front_into.new.self) c.read_values.ensures.values next;
         refusals = stands.refusals;
         counted = omega (arith, few, count, slot);
         slot = slot;
         front = front;
-        is_framed = c.read_front.ensures.framed;
+        is_framed = c.front_into.ensures.framed;
         size = c.claim_len-self.ensures.length;
         within = c.claim_len-self.ensures.most;
         claim = take_front c.claim_len-self.result c.fill-2.new.buf _ size;

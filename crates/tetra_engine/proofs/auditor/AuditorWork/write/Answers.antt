@@ -1,5 +1,5 @@
 use Rattle.std.proofs.Common.{rules, ◌≡◌, sym, subst, ap, ◌∙◌, ◌++◌, ◌∷◌, [], length}
-use Rattle.tetra_engine.specs.BelowReceiver.{ReceiverStands}
+use Rattle.tetra_session.specs.Heard.{ReceiverStands}
 use Rattle.tetra_engine.specs.Auditing.{refused_by, refused_slots, verdict_at}
 use Rattle.tetra_engine.specs.Refusals.{Counts}
 use Rattle.tetra_engine.proofs.Audited.{slots_more, refused_more}

@@ -1,0 +1,70 @@
+-- How a run ends, by its words and the bytes that are told.
+use Rattle.std.specs.Prelude.{◌≡◌, ◌≢◌, ℕ, Bool, true, false, List, Ok, Err, Result, IsTrue, ⊤}
+use Rattle.std.specs.declared.option.Option.{Option}
+use Rattle.tetra_settings.specs.declared.types.Command.{Command}
+use Rattle.tetra_settings.specs.declared.types.Command.TheVariants.{Encode, Decode, Audit}
+use Rattle.tetra_settings.specs.declared.types.Settings.{Settings}
+use Rattle.tetra_settings.specs.declared.types.WordFault.{WordFault}
+use Rattle.tetra_engine.specs.declared.status.Status.{Status}
+use Rattle.tetra_engine.specs.declared.status.Status.TheVariants.{Words, NotBuilt, Write}
+use Rattle.tetra_engine.specs.declared.status.End.{End}
+use Rattle.tetra_engine.specs.Auditing.{auditing}
+use Rattle.tetra_engine.specs.Built.{is_ready}
+use Rattle.tetra_engine.specs.Decoding.{decoding}
+use Rattle.tetra_engine.specs.Encoding.{encoding}
+use Rattle.tetra_engine.specs.Outcomes.{EndsBy, Outcome, Grows}
+
+-- the end of a run that went no further than its words
+abbrev pub StopsAt : Status → Type 0 → Type 0 → End → Type 0
+StopsAt status Source Sink end = Source × Sink × (end ≡ record { status = status; slots = 0 })
+
+-- A run whose words are faulty, or not built, ends so, with nothing read, written or flushed. Source and Sink say that
+-- both are as they were.
+abbrev pub StartsBuilt : Bool → Type 0 → Type 0 → End → Type 0
+StartsBuilt true Source Sink end = Unit {0}
+StartsBuilt false Source Sink end = StopsAt NotBuilt Source Sink end
+
+abbrev pub Starts : Result (Command × Settings) WordFault → Type 0 → Type 0 → End → Type 0
+Starts (Ok (command, settings)) Source Sink end = StartsBuilt (is_ready command settings) Source Sink end
+Starts (Err fault) Source Sink end = StopsAt (Words fault.index fault.why) Source Sink end
+
+-- the end of a command's run
+abbrev pub CommandEnds : Command → Settings → Option (List ℕ) → Option (List ℕ) → Option (List ℕ) → Option (List ℕ) → End → Type 0
+CommandEnds Encode settings rest0 rest1 taken0 taken1 end = EndsBy end.status (encoding settings) settings.max rest0 rest1 (Grows taken0 taken1) end
+CommandEnds Decode settings rest0 rest1 taken0 taken1 end = EndsBy end.status (decoding settings) settings.max rest0 rest1 (Grows taken0 taken1) end
+CommandEnds Audit settings rest0 rest1 taken0 taken1 end = EndsBy end.status (auditing settings) settings.max rest0 rest1 (Grows taken0 taken1) end
+CommandEnds command settings rest0 rest1 taken0 taken1 end = Unit {0}
+
+-- the end of a run whose words pass and are built
+abbrev pub EndsBuilt : Bool → Command → Settings → Option (List ℕ) → Option (List ℕ) → Option (List ℕ) → Option (List ℕ) → End → Type 0
+EndsBuilt true command settings rest0 rest1 taken0 taken1 end = CommandEnds command settings rest0 rest1 taken0 taken1 end
+EndsBuilt false command settings rest0 rest1 taken0 taken1 end = Unit {0}
+
+abbrev pub Ends : Result (Command × Settings) WordFault → Option (List ℕ) → Option (List ℕ) → Option (List ℕ) → Option (List ℕ) → End → Type 0
+Ends (Ok (command, settings)) rest0 rest1 taken0 taken1 end = EndsBuilt (is_ready command settings) command settings rest0 rest1 taken0 taken1 end
+Ends (Err fault) rest0 rest1 taken0 taken1 end = Unit {0}
+
+-- such a run settles the sink, but where a write or the flush failed
+abbrev pub SettlesBuilt : Bool → Bool → Status → Type 0
+SettlesBuilt true settled status = status ≢ Write → IsTrue settled
+SettlesBuilt false settled status = Unit {0}
+
+abbrev pub Settles : Result (Command × Settings) WordFault → Bool → Status → Type 0
+Settles (Ok (command, settings)) settled status = SettlesBuilt (is_ready command settings) settled status
+Settles (Err fault) settled status = Unit {0}
+
+-- the end of a run that meets no fault, by the command
+abbrev pub CommandRuns : Command → Settings → List ℕ → End → Type 0
+CommandRuns Encode settings bytes end = Outcome (encoding settings) settings.max bytes (λ output. ⊤) end
+CommandRuns Decode settings bytes end = Outcome (decoding settings) settings.max bytes (λ output. ⊤) end
+CommandRuns Audit settings bytes end = Outcome (auditing settings) settings.max bytes (λ output. ⊤) end
+CommandRuns command settings bytes end = Unit {0}
+
+abbrev pub RunsBuilt : Bool → Command → Settings → List ℕ → End → Type 0
+RunsBuilt true command settings bytes end = CommandRuns command settings bytes end
+RunsBuilt false command settings bytes end = end ≡ record { status = NotBuilt; slots = 0 }
+
+-- the end of a run over these bytes that meets no fault
+abbrev pub RunsOver : Result (Command × Settings) WordFault → List ℕ → End → Type 0
+RunsOver (Ok (command, settings)) bytes end = RunsBuilt (is_ready command settings) command settings bytes end
+RunsOver (Err fault) bytes end = end ≡ record { status = Words fault.index fault.why; slots = 0 }

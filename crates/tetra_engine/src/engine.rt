@@ -1,0 +1,90 @@
+// A whole run.
+ghost use Rattle.std.specs.Prelude.{◌≡◌, ◌≢◌, ◌≤◌, IsTrue};
+ghost use Rattle.std.specs.Io.KnownBytes.{IsAtEnd};
+ghost use Rattle.tetra_io.specs.Streams.{Rose};
+ghost use Rattle.tetra_settings.specs.Validity.{IsValid};
+ghost use Rattle.tetra_settings.specs.Words.{texts, meaning};
+ghost use Rattle.tetra_session.specs.Built.{IsBuilt};
+ghost use Rattle.tetra_engine.specs.Built.{is_built_command};
+ghost use Rattle.tetra_engine.specs.Outcomes.{EndsBy, Grows, IsEnd};
+ghost use Rattle.tetra_engine.specs.Running.{Starts, CommandEnds, Ends, Settles};
+
+use crate::auditor::Auditor;
+use crate::decoder::Decoder;
+use crate::encoder::Encoder;
+use crate::status::{End, Status};
+use crate::work::finish;
+use tetra_io::{Sink, Source};
+use tetra_session::is_built;
+use tetra_settings::{Command, Settings, read_words};
+
+/// Whether the command is built.
+fn is_built_command(command: Command) -> bool
+    ensures { result ≡ is_built_command command }
+{
+    matches!(command, Command::Encode | Command::Decode | Command::Audit)
+}
+
+/// The run of a command that is built.
+fn run_command<S: Source, K: Sink>(
+    command: Command,
+    settings: &Settings,
+    src: &mut S,
+    sink: &mut K,
+) -> End
+    requires valid { IsValid settings.now }
+    requires command { IsTrue (is_built_command command) }
+    requires built { IsBuilt settings.now }
+    ensures ends { CommandEnds command settings.now (S.rest src.old) (S.rest src.new) (K.taken sink.old) (K.taken sink.new) result }
+    ensures left { IsEnd result.status → IsAtEnd (S.rest src.new) }
+    ensures settled { result.status ≢ Status.Write → IsTrue (K.settled sink.new) }
+    ensures read { result.status ≡ Status.Read → Rose (S.faults src.old) (S.faults src.new) }
+    ensures write { result.status ≡ Status.Write → Rose (K.faults sink.old) (K.faults sink.new) }
+{
+    match command {
+        Command::Encode => finish(&mut Encoder::new(settings), settings.max, src, sink),
+        Command::Decode => finish(&mut Decoder::new(settings), settings.max, src, sink),
+        Command::Audit => finish(&mut Auditor::new(settings), settings.max, src, sink),
+        Command::Gen | Command::Trial => unreachable!(),
+    }
+}
+
+/// All that the program does, from the words and the bytes that come in to the bytes that go out.
+///
+/// `encode` reads block records and writes slots, `decode` reads slots and writes reading records, and `audit` reads
+/// slots with reading records and writes a line for each. Faulty words, and words that are not built yet, end the run
+/// before anything is read, written or flushed. Else the outcome is a function of the words and the bytes, however
+/// the source cuts them, but where a read, a write or the flush fails. This project's own.
+pub fn run<S: Source, K: Sink>(words: &[String], src: &mut S, sink: &mut K) -> End
+    // Faulty words give Words, and words that are not built give NotBuilt. Then source and sink are as they were.
+    ensures starts { Starts (meaning (texts words.now)) (src.new ≡ src.old) (sink.new ≡ sink.old) result }
+    // Each other end is the one that the told bytes define, with its output, or what stands after a fault.
+    ensures ends { Ends (meaning (texts words.now)) (S.rest src.old) (S.rest src.new) (K.taken sink.old) (K.taken sink.new) result }
+    // Done and Refused leave nothing to read.
+    ensures left { IsEnd result.status → IsAtEnd (S.rest src.new) }
+    // On every end but those of the words and of a failed write or flush the sink is settled.
+    ensures settled { Settles (meaning (texts words.now)) (K.settled sink.new) result.status }
+    // Read and Write come only where a fault was counted in this run, or the count stands at its last value.
+    ensures read { result.status ≡ Status.Read → Rose (S.faults src.old) (S.faults src.new) }
+    ensures write { result.status ≡ Status.Write → Rose (K.faults sink.old) (K.faults sink.new) }
+{
+    let (command, settings) = match read_words(words) {
+        Ok(found) => found,
+        Err(fault) => {
+            return End {
+                status: Status::Words {
+                    index: fault.index,
+                    why: fault.why,
+                },
+                slots: 0,
+            };
+        }
+    };
+    if !(is_built_command(command) && is_built(&settings)) {
+        return End {
+            status: Status::NotBuilt,
+            slots: 0,
+        };
+    }
+    run_command(command, &settings, src, sink)
+}

@@ -1,0 +1,13 @@
+// Laws of the definitions.
+ghost use Rattle.tetra_settings.specs.declared.types.Settings.{Settings};
+ghost use Rattle.tetra_engine.specs.Auditing.{auditing};
+ghost use Rattle.tetra_engine.specs.Decoding.{decoding};
+ghost use Rattle.tetra_engine.specs.Encoding.{encoding};
+ghost use Rattle.tetra_engine.specs.Shapes.{OneCut};
+
+/// A list of bytes has one cut into block records, one into slots, and one into slots with reading records.
+pub fn one_cut()
+    ensures encode { (settings : Settings) → OneCut (encoding settings) }
+    ensures decode { (settings : Settings) → OneCut (decoding settings) }
+    ensures audit { (settings : Settings) → OneCut (auditing settings) }
+{}

@@ -1,0 +1,5 @@
+use Rattle.tetra_session.proofs.ApartLemmas.{heard_apart}
+use Rattle.tetra_session.proofs.laws.heard_apart.Goals as goal
+
+pub returns : goal.returns
+returns c = heard_apart

@@ -1,0 +1,5 @@
+use Rattle.tetra_session.proofs.ApartLemmas.{sent_apart}
+use Rattle.tetra_session.proofs.laws.sent_apart.Goals as goal
+
+pub returns : goal.returns
+returns c = sent_apart

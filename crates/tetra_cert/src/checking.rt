@@ -33,10 +33,11 @@ pub fn check<P: Plan>(soft: &Soft, message: &Bits, potentials: &Potentials) -> V
     ensures complete { IsAccepted P.plan (spread_values P.plan soft.now) message.now potentials.now → result ≡ Verdict.Accepted }
 {
     let wide = spread::<P>(soft);
+    let branches = branches_of::<P::Code>();
     let mut path = 0;
     for t in 0..P::STEPS + 1 {
-        if let Some(Failing { state, rule }) = first_of_states::<P>(
-            &wide, message, potentials, t, path,
+        if let Some(Failing { state, rule }) = failing_at::<P>(
+            &wide, message, potentials, t, path, &branches,
         ) {
             return Verdict::Refused {
                 step: t as u16,

@@ -1,5 +1,5 @@
 -- The sizes of the lists on the way of a block.
-use Rattle.std.proofs.Common.{◌≡◌, ℕ, ◌+◌, ◌⊎◌, inl, inr, Bool, false, List, ◌++◌, length, replicate, arith, length-append, ap, ◌∙◌}
+use Rattle.std.proofs.Common.{◌≡◌, ℕ, ◌+◌, ◌⊎◌, inl, inr, Bool, List, length, arith, length-append, ap, ◌∙◌}
 use Rattle.tetra_parity.specs.Parity.{with_parity16, parity_bits16}
 use Rattle.tetra_parity.proofs.Messages.{length-parity_bits16}
 use Rattle.tetra_channels.specs.Channels.{message_of}

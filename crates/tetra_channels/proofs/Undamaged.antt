@@ -1,5 +1,5 @@
 -- Undamaged values stay undamaged on the way back from type 5 to type 3, and name the block.
-use Rattle.std.proofs.Common.{◌≡◌, ℕ, ◌+◌, ◌-◌, ◌*◌, ◌%◌, ◌<◌, ◌≤◌, ◌⊎◌, inl, inr, zero, suc, nat_eq, Bool, true, false, cond, List, length, get_or, Some, arith, refl, ap, sym, subst, ◌∙◌}
+use Rattle.std.proofs.Common.{◌≡◌, ℕ, ◌+◌, ◌-◌, ◌*◌, ◌%◌, ◌<◌, ◌⊎◌, inl, inr, zero, suc, nat_eq, Bool, true, false, cond, List, length, arith, refl, ap, sym, subst, ◌∙◌}
 use Rattle.std.proofs.Math.IntN.{neg_ℤ}
 use Rattle.std.proofs.lemmas.Nat.{mod_below}
 use Rattle.std.specs.Prelude.{ℤ, pos, negsuc}
@@ -10,16 +10,13 @@ use Rattle.tetra_bits.specs.Plain.{best_plain}
 use Rattle.tetra_bits.specs.Soft.{value_at}
 use Rattle.tetra_bits.specs.Sums.{add2}
 use Rattle.tetra_bits.specs.Undamaged.{HasSign, IsUndamaged}
-use Rattle.tetra_bits.specs.declared.reading.Mark.{Mark}
 use Rattle.tetra_bits.specs.declared.reading.Mark.TheVariants.{Good, Unchecked}
 use Rattle.tetra_bits.proofs.Written.{written_free, others_cost, free_is_best}
 use Rattle.tetra_interleave.specs.Block.{IsBlock, interleaved, deinterleaved, taken_from}
 use Rattle.tetra_interleave.proofs.Places.{interleaved_placed, length-interleaved, length-deinterleaved}
 use Rattle.tetra_parity.specs.Parity.{with_parity16}
 use Rattle.tetra_parity.proofs.Messages.{parity_holds, tests_parity}
-use Rattle.tetra_puncture.specs.Best.{best_of, message_metric}
 use Rattle.tetra_puncture.specs.Plan.{CodePlan, IsMessage, WordsDiffer, word}
-use Rattle.tetra_puncture.specs.ToGo.{potentials_of}
 use Rattle.tetra_puncture.proofs.Undamaged.{length-word, undamaged_free, undamaged_is_best}
 use Rattle.tetra_scramble.specs.Flips.{flipped, turned, key_bit_for}
 use Rattle.tetra_scramble.proofs.Entries.{length-flipped, length-turned, flipped_at, turned_at}

@@ -1,6 +1,6 @@
--- The coded channels of EN 300 392-2 clause 8.2, from the bits of a block (type 1) to the bits that are sent (type 5). A
--- channel is given by the number of its parity bits, par, by its block interleaver of k entries, a and inv, and by the plan
--- of its code.
+-- The channels of EN 300 392-2 clause 8, from the bits of a block (type 1) to the bits that are sent (type 5); the names of
+-- the stages are those of clause 8.2.1. A coded channel is given by the number of its parity bits, par, by its block
+-- interleaver, k, a and inv, and by the plan of its code.
 use Rattle.std.specs.Prelude.{◌≡◌, ℕ, ◌+◌, ◌<◌, ◌⊎◌, Bool, false, cond, nat_eq, ℤ, pos, List}
 use Rattle.tetra_interleave.specs.Block.{IsBlock, interleaved, deinterleaved}
 use Rattle.tetra_parity.specs.Parity.{with_parity16}

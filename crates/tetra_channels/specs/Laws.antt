@@ -1,7 +1,6 @@
 -- What is read of a block that came undamaged.
 use Rattle.std.specs.Prelude.{◌≡◌, ℕ, ◌+◌, cond, nat_eq, Bool, ℤ, List, length, Some, None}
 use Rattle.tetra_bits.specs.Undamaged.{IsUndamaged}
-use Rattle.tetra_bits.specs.declared.reading.Mark.{Mark}
 use Rattle.tetra_bits.specs.declared.reading.Mark.TheVariants.{Good, Unchecked}
 use Rattle.tetra_bits.specs.declared.reading.Reading.{Reading}
 use Rattle.tetra_puncture.specs.Plan.{CodePlan}

@@ -1,7 +1,8 @@
 // Coded channels.
 ghost use Rattle.std.specs.Prelude.{◌≡◌, ◌+◌, length};
+ghost use Rattle.tetra_puncture.specs.Best.{IsFirstLeast};
 ghost use Rattle.tetra_channels.specs.Channels.{IsChannel, type3_bits, type5_bits, front_values};
-ghost use Rattle.tetra_channels.specs.Fields.{coded_reading};
+ghost use Rattle.tetra_channels.specs.Fields.{coded_reading, IsMarked};
 ghost use Rattle.tetra_channels.specs.Laws.{UndamagedIsRead};
 
 use crate::message::{mark, message};
@@ -12,22 +13,22 @@ use tetra_puncture::{Plan, TwoThirds, keep};
 use tetra_scramble::{Key, flip_bits, flip_soft};
 use tetra_trellis::solve_into;
 
-/// A coded channel: `PAR` parity bits, 16 or none, the plan `P` of its code, which sends `K3` bits, and the block
+/// A coded channel (EN 300 392-2 clause 8): `PAR` parity bits, 16 or none, the plan `P` of its code, which sends `K3` bits, and the block
 /// interleaver (`K3`, `A`) with `A INV mod K3 = 1`. A block has `STEPS - PAR - 4` bits, a list of received values `K3`.
 pub struct Coded<const PAR: usize, const K3: usize, const A: usize, const INV: usize, P> {
     plan: PhantomData<P>,
 }
 
-/// BSCH: 60 bits, 120 of them sent (EN 300 392-2 clause 8.2.4).
+/// BSCH: blocks of 60 bits, 120 are sent.
 pub type Bsch = Coded<16, 120, 11, 11, TwoThirds<80, 120>>;
 
-/// SCH/HU: 92 bits, 168 sent.
+/// SCH/HU: blocks of 92 bits, 168 are sent.
 pub type Hu = Coded<16, 168, 13, 13, TwoThirds<112, 168>>;
 
-/// SCH/HD, BNCH and STCH: 124 bits, 216 sent.
+/// SCH/HD, BNCH and STCH: blocks of 124 bits, 216 are sent.
 pub type Half = Coded<16, 216, 101, 77, TwoThirds<144, 216>>;
 
-/// SCH/F: 268 bits, 432 sent.
+/// SCH/F: blocks of 268 bits, 432 are sent.
 pub type Full = Coded<16, 432, 103, 151, TwoThirds<288, 432>>;
 
 impl<const PAR: usize, const K3: usize, const A: usize, const INV: usize, P: Plan> Coded<
@@ -37,7 +38,7 @@ impl<const PAR: usize, const K3: usize, const A: usize, const INV: usize, P: Pla
     INV,
     P,
 > {
-    /// The type-3 bits of a block: its parity and four tail bits behind it, coded and punctured.
+    /// The type-3 bits of a block: its parity and four tail bits put behind it, coded and punctured. There are `K3`.
     pub fn type3(block: &Bits) -> Bits
         requires channel { IsChannel P.IsSound PAR K3 A INV P.plan }
         requires size { length block.now + PAR + 4 ≡ P.STEPS }
@@ -47,7 +48,7 @@ impl<const PAR: usize, const K3: usize, const A: usize, const INV: usize, P: Pla
         keep::<P>(&message::<PAR>(block))
     }
 
-    /// The type-5 bits of a block: its type-3 bits interleaved, and scrambled from key bit 1 on.
+    /// The type-5 bits of a block: its type-3 bits interleaved, and scrambled from key bit 1 on. There are `K3`.
     pub fn encode(block: &Bits, key: &Key) -> Bits
         requires channel { IsChannel P.IsSound PAR K3 A INV P.plan }
         requires size { length block.now + PAR + 4 ≡ P.STEPS }
@@ -65,7 +66,19 @@ impl<const PAR: usize, const K3: usize, const A: usize, const INV: usize, P: Pla
         ensures values { result ≡ front_values K3 A key.now soft.now }
         ensures size { length result ≡ K3 }
     {
-        Block::<K3, A, INV>::soft_back(&flip_soft(soft, key, 1))
+        let mut values = Soft::new();
+        Self::front_into(soft, key, &mut values);
+        values
+    }
+
+    /// The same into a list that is there.
+    pub fn front_into(soft: &Soft, key: &Key, values: &mut Soft)
+        requires channel { IsChannel P.IsSound PAR K3 A INV P.plan }
+        requires size { length soft.now ≡ K3 }
+        ensures values { values.new ≡ front_values K3 A key.now soft.now }
+        ensures size { length values.new ≡ K3 }
+    {
+        Block::<K3, A, INV>::soft_back_into(&flip_soft(soft, key, 1), values);
     }
 
     /// What is read over `K3` values in the order of type-3 bits: the first-least message of the code, its metric, and
@@ -74,7 +87,9 @@ impl<const PAR: usize, const K3: usize, const A: usize, const INV: usize, P: Pla
     pub fn decode3(soft: &Soft) -> Reading
         requires channel { IsChannel P.IsSound PAR K3 A INV P.plan }
         requires size { length soft.now ≡ K3 }
-        ensures { result ≡ coded_reading PAR P.plan soft.now }
+        ensures reading { result ≡ coded_reading PAR P.plan soft.now }
+        ensures first_least { IsFirstLeast P.plan soft.now result.bits }
+        ensures marked { IsMarked PAR result.mark result.bits }
     {
         let mut reading = Reading {
             mark: Mark::Unchecked,
@@ -90,7 +105,9 @@ impl<const PAR: usize, const K3: usize, const A: usize, const INV: usize, P: Pla
     pub fn decode3_into(soft: &Soft, reading: &mut Reading)
         requires channel { IsChannel P.IsSound PAR K3 A INV P.plan }
         requires size { length soft.now ≡ K3 }
-        ensures { reading.new ≡ coded_reading PAR P.plan soft.now }
+        ensures reading { reading.new ≡ coded_reading PAR P.plan soft.now }
+        ensures first_least { IsFirstLeast P.plan soft.now reading.new.bits }
+        ensures marked { IsMarked PAR reading.new.mark reading.new.bits }
     {
         let potentials = reading.potentials.get_or_insert_with(Potentials::new);
         reading.metric = solve_into::<P>(soft, &mut reading.bits, potentials);

@@ -7,7 +7,7 @@ ghost use Rattle.tetra_channels.specs.Laws.{UndamagedRawIsRead};
 use tetra_bits::{Bits, Mark, Reading, Soft, read_plain};
 use tetra_scramble::{Key, flip_bits};
 
-/// TCH/7.2: a block of 432 bits that is only scrambled (EN 300 392-2 clause 8.2).
+/// TCH/7.2: a block of 432 bits that is only scrambled (EN 300 392-2 clause 8).
 pub struct Raw72;
 
 impl Raw72 {

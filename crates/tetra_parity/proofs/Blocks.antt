@@ -1,12 +1,12 @@
 -- The rest of a block, one bit more.
-use Prim.Native.Nat.{zero, suc}
-use Rattle.std.proofs.Common.{◌≡◌, ℕ, ◌+◌, ◌-◌, ◌*◌, ◌/◌, ◌%◌, ◌^◌, ◌<◌, ◌≤◌, ◌⊎◌, inl, inr, Bool, true, false, nat_lt, cond, not, nat_le, lit<, lit≤, List, [], ◌∷◌, ◌++◌, length, get_or, take, arith, refl, ap, sym, ◌∙◌}
+use Prim.Native.Nat.{suc}
+use Rattle.std.proofs.Common.{◌≡◌, ℕ, ◌+◌, ◌-◌, ◌*◌, ◌%◌, ◌^◌, ◌<◌, ◌≤◌, inl, inr, Bool, true, false, nat_lt, cond, not, nat_le, lit<, lit≤, List, [], ◌∷◌, ◌++◌, length, take, arith, refl, ap, sym, ◌∙◌}
 use Rattle.std.proofs.Math.Bool.{beq}
 use Rattle.std.specs.Int.Bits.{bit_xor, xor_assoc, xor_self, xor_zero_r}
 use Rattle.std.proofs.lemmas.Bool.{cases_lt, lt-ltb, le-ltb, le-leb, lt-leb}
-use Rattle.std.proofs.lemmas.List.{get_or_append_left, length-append, take_more, take_all}
+use Rattle.std.proofs.lemmas.List.{get_or_append_left, length-append, take_more}
 use Rattle.std.proofs.Math.Seq.{get_or-append_seam}
-use Rattle.std.proofs.lemmas.Nat.{xor_comm, xor_lt, xor_block}
+use Rattle.std.proofs.lemmas.Nat.{xor_comm, xor_block}
 use Rattle.tetra_bits.specs.Order.{bit_at}
 use Rattle.tetra_bits.specs.Polynomials.{reduced, times_x, power_rest}
 use Rattle.tetra_parity.specs.Parity.{poly_sum, block_term, block_rest, generator16, ones_term, ones_rest, parity16}

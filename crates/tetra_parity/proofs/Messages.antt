@@ -1,6 +1,5 @@
 -- Messages and their parity.
-use Prim.Native.Nat.{zero, suc}
-use Rattle.std.proofs.Common.{◌≡◌, ℕ, ◌+◌, ◌-◌, ◌<◌, ◌≤◌, Bool, true, false, not, append_assoc, ◌&&◌, List, [], ◌∷◌, ◌++◌, length, get_or, take, drop, arith, refl, ap, sym, ◌∙◌}
+use Rattle.std.proofs.Common.{◌≡◌, ℕ, ◌+◌, ◌-◌, ◌<◌, Bool, true, false, not, append_assoc, List, [], ◌∷◌, ◌++◌, length, get_or, take, drop, arith, refl, ap, sym, ◌∙◌}
 use Rattle.std.proofs.Math.Bool.{beq}
 use Rattle.std.proofs.Math.Seq.{take-append_seam, drop-append_seam}
 use Rattle.std.proofs.lemmas.List.{length-append, length-drop, get_or-drop, ext_get_or}
@@ -19,6 +18,17 @@ parity_holds block =
     let p : List Bool = parity_bits16 block in
     let n : length (block ++ p) - 16 ≡ length block = omega (arith, length-append block p, length-parity_bits16 block) in
     rw (n, drop-append_seam block p, take-append_seam block p) refl
+
+-- the block comes back
+pub before16-with_parity16 : (block : List Bool) → before16 (with_parity16 block) ≡ block
+unfolding before16 with_parity16
+before16-with_parity16 block =
+    let n : length (block ++ parity_bits16 block) - 16 ≡ length block = omega (arith, length-append block (parity_bits16 block), length-parity_bits16 block) in
+    rw n (take-append_seam block (parity_bits16 block))
+
+pub length-with_parity16 : (block : List Bool) → length (with_parity16 block) ≡ length block + 16
+unfolding with_parity16
+length-with_parity16 block = length-append block (parity_bits16 block) ∙ ap (λ n. length block + n) (length-parity_bits16 block)
 
 same_bits-self : (xs : List Bool) → same_bits xs xs ≡ true
 unfolding same_bits
@@ -62,6 +72,10 @@ each_agrees message size parity k l p h inside =
 -- the answer of the test
 pub says_true : (message : List Bool) → Holds16 message → true ≡ holds16_of message
 says_true message h = sym ((tests_parity message).1 h)
+
+-- it says so of each block with its parity
+pub holds16_of-with_parity16 : (block : List Bool) → holds16_of (with_parity16 block) ≡ true
+holds16_of-with_parity16 block = (tests_parity (with_parity16 block)).1 (parity_holds block)
 
 not_true : (b : Bool) → (b ≡ true → ⊥) → false ≡ b
 not_true true n = absurd (n refl)

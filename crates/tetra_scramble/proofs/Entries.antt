@@ -1,6 +1,6 @@
 -- The entries of flipped bits and turned values.
 use Prim.Native.Nat.{zero, suc}
-use Rattle.std.proofs.Common.{◌≡◌, ℕ, ◌+◌, ◌-◌, ◌<◌, ◌≤◌, Bool, true, false, cond, not, ℤ, pos, List, [], ◌∷◌, length, get_or, arith, refl, ap, sym, ◌∙◌}
+use Rattle.std.proofs.Common.{◌≡◌, ℕ, ◌+◌, ◌-◌, ◌<◌, ◌≤◌, Bool, true, false, cond, not, ℤ, pos, negsuc, List, length, arith, refl, sym, ap, ◌∙◌}
 use Rattle.std.proofs.Math.Bool.{beq}
 use Rattle.std.proofs.Math.IntN.{neg_ℤ, neg_ℤ-neg_ℤ}
 use Rattle.std.proofs.lemmas.List.{ext_get_or}
@@ -8,7 +8,8 @@ use Rattle.tetra_bits.specs.Numbered.{numbered, length-numbered, get_or-numbered
 use Rattle.tetra_bits.specs.Order.{bit_at}
 use Rattle.tetra_bits.specs.Soft.{value_at}
 use Rattle.tetra_bits.specs.Sums.{add2}
-use Rattle.tetra_scramble.specs.Flips.{key_bit_for, flipped_bit, flipped, turned_value, turned, FlippedBack, TurnedBack}
+use Rattle.tetra_bits.specs.Undamaged.{HasSign, IsUndamaged}
+use Rattle.tetra_scramble.specs.Flips.{key_bit_for, flipped_bit, flipped, turned_value, turned, FlippedBack, TurnedBack, StaysUndamaged}
 
 added : (a b : Bool) → not (beq a b) ≡ add2 a b
 added true true = refl
@@ -88,3 +89,26 @@ turned_back x key from =
     turned_at (turned x key from) key from k m
     ∙ ap (λ v. cond (key_bit_for key from (k + 1)) (neg_ℤ v) v) (turned_at x key from k (omega arith))
     ∙ turn_twice (key_bit_for key from (k + 1)) (value_at x k))
+
+sign_follows : (b bit : Bool) (v : ℤ) → HasSign bit v → HasSign (add2 bit b) (cond b (neg_ℤ v) v)
+sign_follows true true (pos n) h = absurd h
+sign_follows true true (negsuc n) h = omega arith
+sign_follows true false (pos zero) h = absurd (omega arith)
+sign_follows true false (pos (suc n)) h = tt
+sign_follows true false (negsuc n) h = absurd h
+sign_follows false true v h = h
+sign_follows false false v h = h
+
+pub stays_undamaged : StaysUndamaged
+stays_undamaged bits values key from u =
+    record {
+      size = length-turned values key from ∙ u.size ∙ sym (length-flipped bits key from);
+      signs = λ k h.
+          let inside : k < length bits = omega (arith, length-flipped bits key from) in
+          let there : k < length values = omega (arith, u.size) in
+          rw (flipped_at bits key from k inside, turned_at values key from k there) (sign_follows (key_bit_for key from (k + 1)) (bit_at bits k) (value_at values k) (u.signs k inside));
+    }
+
+-- values that have the signs of scrambled bits have, once turned, those of the bits
+pub descrambled_undamaged : (bits : List Bool) (values : List ℤ) (key : List Bool) (from : ℕ) → IsUndamaged (flipped bits key from) values → IsUndamaged bits (turned values key from)
+descrambled_undamaged bits values key from u = rw (flipped_back bits key from) at (stays_undamaged (flipped bits key from) values key from u)

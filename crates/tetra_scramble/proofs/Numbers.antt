@@ -1,14 +1,11 @@
 -- Numbers by their binary digits, the most significant first.
 use Prim.Native.Nat.{zero, suc}
-use Rattle.std.proofs.Common.{◌≡◌, ℕ, ◌+◌, ◌-◌, ◌*◌, ◌/◌, ◌%◌, ◌^◌, ◌<◌, ◌≤◌, Bool, true, false, nat_eq, cond, not, List, [], ◌∷◌, ◌++◌, length, get_or, arith, refl, ap, sym, ◌∙◌, inl, inr}
+use Rattle.std.proofs.Common.{◌≡◌, ℕ, ◌+◌, ◌-◌, ◌*◌, ◌/◌, ◌%◌, ◌^◌, ◌<◌, ◌≤◌, Bool, true, false, nat_eq, ◌++◌, length, arith, refl, ap, sym, ◌∙◌}
 use Rattle.std.proofs.Math.Nat.{pow-succ'}
-use Rattle.std.proofs.lemmas.Bool.{cases_lt}
-use Rattle.std.proofs.lemmas.List.{get_or_append_left, get_or-append_right, length-append}
-use Rattle.std.proofs.lemmas.Nat.{mod-pow-add, pow-add, pow_pos, or_shifted}
-use Rattle.std.proofs.lemmas.Nat.Bits.{bit_at_cat_low, bit_at_cat_high, bit_at-zero}
-use Rattle.std.specs.Int.{bit_at}
+use Rattle.std.proofs.lemmas.List.{length-append}
+use Rattle.std.proofs.lemmas.Nat.{mod-pow-add, pow-add, or_shifted}
 use Rattle.std.specs.Int.Bits.{bit_or}
-use Rattle.tetra_bits.specs.Numbered.{numbered, length-numbered, get_or-numbered, is_numbered, numbered_same}
+use Rattle.tetra_bits.specs.Numbered.{length-numbered, numbered_same}
 use Rattle.tetra_bits.proofs.Digits.{length-digits, digits-cat, no_digit}
 use Rattle.tetra_bits.specs.Sums.{bit_number}
 use Rattle.tetra_bits.specs.Digits.{digit, digits}

@@ -1,12 +1,11 @@
 -- The key as a function obeys the recurrence, and only one list does.
 use Prim.Native.Nat.{zero, suc}
-use Rattle.std.proofs.Common.{◌≡◌, ℕ, ◌+◌, ◌-◌, ◌<◌, ◌≤◌, ◌⊎◌, inl, inr, Bool, true, false, nat_lt, cond, List, [], ◌∷◌, ◌++◌, length, get_or, arith, rules, refl, ap, sym, ◌∙◌}
+use Rattle.std.proofs.Common.{◌≡◌, ℕ, ◌+◌, ◌-◌, ◌<◌, ◌≤◌, inl, inr, Bool, true, false, nat_lt, cond, List, [], ◌∷◌, ◌++◌, length, arith, rules, refl, ap, sym, ◌∙◌}
 use Rattle.std.proofs.Math.Nat.{eq-or-lt_of_le}
 use Rattle.std.proofs.lemmas.Bool.{cases_lt, lt-ltb, le-ltb}
 use Rattle.std.proofs.lemmas.List.{get_or_append_left, get_or-append_right, ext_get_or}
-use Rattle.tetra_bits.specs.Numbered.{numbered, length-numbered, get_or-numbered}
+use Rattle.tetra_bits.specs.Numbered.{length-numbered, get_or-numbered}
 use Rattle.tetra_bits.specs.Order.{bit_at}
-use Rattle.tetra_bits.specs.Sums.{add2}
 use Rattle.tetra_scramble.specs.Key.{distances, sum2_over, bit_before, IsKey, past, key_bit, key_from, OnlyKey, KeyIsKey}
 
 abbrev InReach : List ℕ → Type 0

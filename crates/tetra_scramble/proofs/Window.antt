@@ -1,6 +1,6 @@
 -- The register of the last 32 bits.
 use Prim.Native.Nat.{zero, suc}
-use Rattle.std.proofs.Common.{◌≡◌, ℕ, ◌+◌, ◌-◌, ◌*◌, ◌/◌, ◌%◌, ◌^◌, ◌<◌, ◌≤◌, ◌⊎◌, inl, inr, Bool, true, false, nat_eq, cond, not, List, [], ◌∷◌, ◌++◌, length, get_or, arith, refl, ap, sym, ◌∙◌}
+use Rattle.std.proofs.Common.{◌≡◌, ℕ, ◌+◌, ◌*◌, ◌/◌, ◌%◌, ◌^◌, ◌<◌, ◌⊎◌, inl, inr, Bool, true, false, nat_eq, cond, List, [], ◌∷◌, length, arith, refl, ap, sym, ◌∙◌}
 use mir.Val.{bool_byte}
 use Rattle.std.specs.Int.Bits.{bit_and, bit_or, and_block, and_lt}
 use Rattle.std.specs.Int.Count.{ones}

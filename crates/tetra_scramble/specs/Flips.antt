@@ -6,6 +6,7 @@ use Rattle.tetra_bits.specs.Numbered.{numbered}
 use Rattle.tetra_bits.specs.Order.{bit_at}
 use Rattle.tetra_bits.specs.Soft.{value_at}
 use Rattle.tetra_bits.specs.Sums.{add2}
+use Rattle.tetra_bits.specs.Undamaged.{IsUndamaged}
 
 -- the key bit that goes with entry i
 unfoldable pub key_bit_for : List Bool → ℕ → ℕ → Bool
@@ -33,3 +34,7 @@ FlippedBack = (x key : List Bool) (from : ℕ) → flipped (flipped x key from) 
 
 abbrev pub TurnedBack : Type 0
 TurnedBack = (x : List ℤ) (key : List Bool) (from : ℕ) → turned (turned x key from) key from ≡ x
+
+-- values that have the signs of bits have, once turned, the signs of the bits with the same key bits added
+abbrev pub StaysUndamaged : Type 0
+StaysUndamaged = (bits : List Bool) (values : List ℤ) (key : List Bool) (from : ℕ) → IsUndamaged bits values → IsUndamaged (flipped bits key from) (turned values key from)

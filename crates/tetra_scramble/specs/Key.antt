@@ -1,8 +1,8 @@
--- The scrambling sequence of a colour, EN 300 392-2 clause 8.2.5. It is called the key.
--- For k from 1 on, p(k) is the sum modulo 2 of p(k - i) over thirteen distances i and 32, where p(0) to p(-29) are the
--- bits e(1) to e(30) of the colour, and p(-30) = p(-31) = 1.
+-- The scrambling sequence of a colour, EN 300 392-2 clause 8.2.5. Its bits p(1) to p(432) are called the key. Bit p(k) is
+-- the sum modulo 2 of p(k - i) over the distances i, where p(0) to p(-29) are the bits e(1) to e(30) of the colour, and
+-- p(-30) = p(-31) = 1.
 use Prim.Native.Nat.{zero, suc}
-use Rattle.std.specs.Prelude.{◌≡◌, ℕ, ◌+◌, ◌-◌, ◌<◌, ◌≤◌, Bool, true, false, nat_lt, cond, List, [], ◌∷◌, ◌++◌, length}
+use Rattle.std.specs.Prelude.{◌≡◌, ℕ, ◌-◌, ◌≤◌, Bool, true, false, nat_lt, cond, List, [], ◌∷◌, ◌++◌, length}
 use Rattle.tetra_bits.specs.Numbered.{numbered}
 use Rattle.tetra_bits.specs.Order.{bit_at}
 use Rattle.tetra_bits.specs.Sums.{add2}
@@ -51,9 +51,10 @@ no_colour = numbered (λ _. false) 30
 unfoldable pub zero_key_bits : List Bool
 zero_key_bits = key_from no_colour
 
--- there is exactly one key
+-- there is no other key of these bits than the function's
 abbrev pub OnlyKey : Type 0
 OnlyKey = (e key : List Bool) → length e ≡ 30 → IsKey e key → key ≡ key_from e
 
+-- the function gives a key of these bits
 abbrev pub KeyIsKey : Type 0
 KeyIsKey = (e : List Bool) → length e ≡ 30 → IsKey e (key_from e)

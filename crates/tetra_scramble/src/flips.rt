@@ -29,10 +29,20 @@ pub fn flip_soft(x: &Soft, key: &Key, from: usize) -> Soft
     ensures { result ≡ turned x.now key.now from }
 {
     let mut values = Soft::new();
+    flip_soft_into(x, key, from, &mut values);
+    values
+}
+
+/// The answer of `flip_soft`, written into `values` in place of what stood there.
+pub fn flip_soft_into(x: &Soft, key: &Key, from: usize, values: &mut Soft)
+    requires first { 1 ≤ from }
+    requires last { from - 1 + length x.now ≤ 432 }
+    ensures { values.new ≡ turned x.now key.now from }
+{
+    values.clear();
     for i in 0..x.len() {
         values.push(turned_by(x.get(i), key.get(from - 1 + i)));
     }
-    values
 }
 
 /// The value, its sign turned where `bit` is 1.

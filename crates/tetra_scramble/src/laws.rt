@@ -1,6 +1,6 @@
 // Laws of the key.
 ghost use Rattle.tetra_scramble.specs.Key.{OnlyKey, KeyIsKey};
-ghost use Rattle.tetra_scramble.specs.Flips.{FlippedBack, TurnedBack};
+ghost use Rattle.tetra_scramble.specs.Flips.{FlippedBack, TurnedBack, StaysUndamaged};
 
 /// The key as a function obeys the recurrence.
 pub fn key_is_key()
@@ -20,4 +20,9 @@ pub fn flipped_back()
 /// Turning the same signs again gives the values back.
 pub fn turned_back()
     ensures { TurnedBack }
+{}
+
+/// Values that have the signs of bits have, once turned, the signs of the bits with the same key bits added.
+pub fn stays_undamaged()
+    ensures { StaysUndamaged }
 {}

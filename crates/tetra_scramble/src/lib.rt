@@ -8,9 +8,9 @@ mod laws;
 mod register;
 
 pub use colour::Colour;
-pub use flips::{flip_bits, flip_soft};
+pub use flips::{flip_bits, flip_soft, flip_soft_into};
 pub use keys::Key;
-pub use laws::{flipped_back, key_is_key, only_key, turned_back};
+pub use laws::{flipped_back, key_is_key, only_key, stays_undamaged, turned_back};
 pub use register::{key, zero_key};
 
 #[cfg(test)]

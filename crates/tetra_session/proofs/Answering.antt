@@ -1,5 +1,5 @@
 -- What a receiver answers by what it keeps.
-use Rattle.std.proofs.Common.{ℕ, ℤ, ◌≡◌, List, [], ◌∷◌, length, Bool, refl, ap, sym, ◌∙◌}
+use Rattle.std.proofs.Common.{ℕ, ℤ, ◌≡◌, List, length, Bool, refl, ap, ◌∙◌}
 use Rattle.arrayvec.specs.ArrayVec.{ArrayVec}
 use Rattle.tetra_scramble.specs.Key.{key_of}
 use Rattle.tetra_settings.specs.Slots.{byte_of}
@@ -18,7 +18,7 @@ abbrev pub reading_made : ℕ → ArrayVec Field → SlotReading
 reading_made byte fields = record { letter = byte; fields = fields }
 
 module _ (settings s : Settings) (history : List (List ℤ)) (soft : List ℤ) (turn byte : ℕ) (letter : Letter) (key : List Bool) (same : s ≡ settings) (turns : turn ≡ length history) (keyed : key ≡ key_of s.colour)
-  (lettered : letter ≡ letter_heard s turn soft) (bytes : byte ≡ byte_of letter) where
+    (lettered : letter ≡ letter_heard s turn soft) (bytes : byte ≡ byte_of letter) where
   letter_is : letter ≡ letter_heard settings (length history) soft
   letter_is = lettered ∙ ap (λ z. letter_heard z turn soft) same ∙ ap (λ t. letter_heard settings t soft) turns
 

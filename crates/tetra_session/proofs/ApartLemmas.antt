@@ -3,16 +3,13 @@ use Rattle.std.proofs.Common.{ℕ, ℤ, ◌-◌, ◌<◌, ◌≡◌, List, lengt
 use Rattle.std.proofs.lemmas.List.{length-take-le}
 use Rattle.tetra_scramble.specs.Key.{key_of}
 use Rattle.tetra_settings.specs.Slots.{timeslot_of, frame_of, mode_of, use_of, use_in}
-use Rattle.tetra_settings.specs.declared.types.Mode.{Mode}
 use Rattle.tetra_settings.specs.declared.types.Mode.TheVariants.{Sig}
 use Rattle.tetra_settings.specs.declared.types.Settings.{Settings}
 use Rattle.tetra_settings.specs.declared.blocks.SlotBlocks.{SlotBlocks}
-use Rattle.tetra_session.specs.Burst.{burst, kind}
-use Rattle.tetra_session.specs.Time.{timeslot_mode}
-use Rattle.tetra_session.specs.Sent.{slot_written, word_of}
+use Rattle.tetra_session.specs.Burst.{kind}
+use Rattle.tetra_session.specs.Sent.{slot_written}
 use Rattle.tetra_session.specs.Heard.{letter_heard, letter_by, slot_front, slot_reading}
 use Rattle.tetra_session.specs.Apart.{SameOn, AgreeOn, SentApart, HeardApart}
-use Rattle.tetra_session.specs.declared.burst.Train.TheVariants.{N}
 
 module _ (c : ℕ) (s z : Settings) (agree : AgreeOn c s z) (t : ℕ) (here : timeslot_of s.at t ≡ c) where
   mode_same : mode_of s t ≡ mode_of z t
@@ -41,7 +38,7 @@ module _ (c : ℕ) (s z : Settings) (agree : AgreeOn c s z) (t : ℕ) (here : ti
   reading_same history other soft lh lo = rw (lh, lo, letter_same soft, key_same) refl
 
 module _ {X Y : Type 0} (answer : Settings → List X → X → Y)
-  (same : (c : ℕ) (s z : Settings) → AgreeOn c s z → (t : ℕ) → timeslot_of s.at t ≡ c → (history other : List X) (x : X) → length history ≡ t → length other ≡ t → answer s history x ≡ answer z other x) where
+    (same : (c : ℕ) (s z : Settings) → AgreeOn c s z → (t : ℕ) → timeslot_of s.at t ≡ c → (history other : List X) (x : X) → length history ≡ t → length other ≡ t → answer s history x ≡ answer z other x) where
   apart : (c : ℕ) (s z : Settings) (a b : List X) → AgreeOn c s z → SameOn s.at c a b → (t : ℕ) (d : X) → t < length a → timeslot_of s.at t ≡ c → answer s (take t a) (get_or a t d) ≡ answer z (take t b) (get_or b t d)
   apart c s z a b agree on t d within here =
       let la : length (take t a) ≡ t = length-take-le t a (omega arith) in

@@ -1,16 +1,13 @@
 -- What an undamaged burst gives.
-use Prim.Native.Nat.{zero, suc}
-use Rattle.std.proofs.Common.{◌≡◌, ◌≢◌, ℕ, ◌+◌, ◌-◌, ◌<◌, ◌≤◌, inl, inr, Bool, true, false, cond, List, length, get_or, arith, refl, sym, ap, ◌∙◌, ℤ, pos, nat_le, nat_lt}
+use Rattle.std.proofs.Common.{◌≡◌, ℕ, ◌+◌, ◌-◌, ◌<◌, ◌≤◌, inl, inr, Bool, true, false, List, length, arith, refl, sym, ap, ◌∙◌, ℤ, pos}
 use Rattle.std.proofs.lemmas.Bool.{lt-ltb, le-ltb, lt-leb, le-leb, cases_lt}
-use Rattle.std.proofs.lemmas.Bool.Decides.{nat_tests}
 use Rattle.tetra_bits.specs.Numbered.{get_or-numbered, length-numbered}
 use Rattle.tetra_bits.specs.Order.{bit_at}
 use Rattle.tetra_bits.specs.Soft.{value_at}
-use Rattle.tetra_bits.specs.Cost.{metric}
 use Rattle.tetra_session.specs.declared.burst.Train.{Train}
 use Rattle.tetra_session.specs.declared.burst.Train.TheVariants.{N, P}
-use Rattle.tetra_session.specs.declared.burst.Source.TheVariants.{Silent, Tail, FirstBlock, Training, SecondBlock}
-use Rattle.tetra_session.specs.Burst.{source_at, level, written, burst, burst_value, word_position, word_value, word_values, text_bits, training, training_value, training_values, training_cost, kind}
+use Rattle.tetra_session.specs.declared.burst.Source.TheVariants.{FirstBlock, Training, SecondBlock}
+use Rattle.tetra_session.specs.Burst.{source_at, level, written, burst, burst_value, word_value, word_values, text_bits, training, training_value, training_values, training_cost, kind}
 use Rattle.tetra_bits.specs.Undamaged.{HasSign, IsUndamaged}
 use Rattle.tetra_bits.proofs.Written.{written_free, others_cost}
 use Rattle.tetra_session.specs.Undamaged.{Keeps, KeepsSlot, BurstArrives}

@@ -1,6 +1,6 @@
 -- What blocks that fit a slot are.
-use Rattle.std.proofs.Common.{ℕ, ◌-◌, ◌≡◌, Bool, true, false, List, length, refl, sym, ap, ◌∙◌, IsTrue}
-use Rattle.tetra_settings.specs.Blocks.{Fits, HasLengths, letter_of}
+use Rattle.std.proofs.Common.{ℕ, ◌-◌, ◌≡◌, Bool, true, List, length, refl, IsTrue}
+use Rattle.tetra_settings.specs.Blocks.{Fits, HasLengths}
 use Rattle.tetra_settings.specs.Slots.{use_of, use_in, mode_of, frame_of, timeslot_of, is_allowed}
 use Rattle.tetra_settings.specs.declared.types.Dir.{Dir}
 use Rattle.tetra_settings.specs.declared.types.Dir.TheVariants.{Dl, Ul}
@@ -10,7 +10,6 @@ use Rattle.tetra_settings.specs.declared.types.Settings.{Settings}
 use Rattle.tetra_settings.specs.declared.slots.Letter.TheVariants.{F, T}
 use Rattle.tetra_settings.specs.declared.slots.SlotUse.{SlotUse}
 use Rattle.tetra_settings.specs.declared.slots.SlotUse.TheVariants.{Signalling, Control, Traffic as TrafficUse}
-use Rattle.tetra_settings.specs.declared.blocks.Body.{Body}
 use Rattle.tetra_settings.specs.declared.blocks.Body.TheVariants.{Full, Traffic}
 use Rattle.tetra_settings.specs.declared.blocks.SlotBlocks.{SlotBlocks}
 use Rattle.tetra_session.specs.Built.{is_built, is_built_mode}

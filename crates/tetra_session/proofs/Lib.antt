@@ -4,3 +4,5 @@ pub mod Fitting
 pub mod OneField
 pub mod Answering
 pub mod ApartLemmas
+pub mod SlotsArriving
+pub mod FieldLemmas

@@ -1,5 +1,5 @@
 -- A list of one field, written over.
-use Rattle.std.proofs.Common.{ℕ, ◌≡◌, ◌+◌, List, [], ◌∷◌, length, set, arith, refl, ap, sym, ◌∙◌}
+use Rattle.std.proofs.Common.{◌≡◌, List, [], ◌∷◌, length, set, arith, refl, ap, ◌∙◌}
 use Rattle.arrayvec.specs.ArrayVec.{ArrayVec, with_items}
 
 module _ {X : Type 0} where

@@ -1,6 +1,6 @@
 -- The normal uplink burst in its slot of 510 positions, and its kind (EN 300 392-2 clause 9.4.4). The silent positions
 -- and the choice of the kind are this project's own.
-use Rattle.std.specs.Prelude.{ℕ, ◌+◌, ◌-◌, ◌≤◌, ◌≡◌, ◌==◌, nat_le, nat_lt, if◌then◌else◌, List, codes, map, ℤ, pos, negsuc, Bool}
+use Rattle.std.specs.Prelude.{ℕ, ◌+◌, ◌-◌, ◌≤◌, ◌==◌, nat_le, nat_lt, if◌then◌else◌, List, codes, map, ℤ, pos, negsuc, Bool}
 use Rattle.tetra_bits.specs.Order.{bit_at}
 use Rattle.tetra_bits.specs.Soft.{value_at}
 use Rattle.tetra_bits.specs.Cost.{metric}

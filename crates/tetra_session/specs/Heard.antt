@@ -1,7 +1,5 @@
 -- What a receiver answers, and what it stands for.
 use Rattle.std.specs.Prelude.{◌≡◌, ℕ, ◌≤◌, Bool, List, [], ◌∷◌, length, ℤ, Some}
-use Rattle.arrayvec.specs.ArrayVec.{ArrayVec}
-use Rattle.tetra_bits.specs.declared.reading.Reading.{Reading}
 use Rattle.tetra_channels.specs.Channels.{front_values}
 use Rattle.tetra_channels.specs.Fields.{coded_reading, raw_reading}
 use Rattle.tetra_puncture.specs.Places.{two_thirds}
@@ -13,7 +11,6 @@ use Rattle.tetra_settings.specs.declared.slots.Letter.{Letter}
 use Rattle.tetra_settings.specs.declared.slots.Letter.TheVariants.{F, T, P as StolenLetter, C}
 use Rattle.tetra_settings.specs.declared.slots.SlotUse.{SlotUse}
 use Rattle.tetra_settings.specs.declared.slots.SlotUse.TheVariants.{Signalling, Control, Traffic}
-use Rattle.tetra_settings.specs.declared.readings.FieldName.{FieldName}
 use Rattle.tetra_settings.specs.declared.readings.FieldName.TheVariants.{Full, D72}
 use Rattle.tetra_settings.specs.declared.readings.Field.{Field}
 use Rattle.tetra_settings.specs.declared.readings.SlotReading.{SlotReading}

@@ -5,3 +5,5 @@ pub mod Time
 pub mod Sent
 pub mod Heard
 pub mod Apart
+pub mod Arrives
+pub mod Fronts

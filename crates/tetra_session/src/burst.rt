@@ -24,8 +24,8 @@ enum Source {
     SecondBlock(usize),
 }
 
-#[tactic(auto, unfolding(crate::specs::Burst::source_at))]
 /// What stands at position `k`, from 1 to 510.
+#[tactic(auto, unfolding(crate::specs::Burst::source_at))]
 fn source_at(k: usize) -> Source
     ensures value { result ≡ source_at k }
     ensures inside { 1 ≤ k → k ≤ 510 → IsSource result }
@@ -151,11 +151,15 @@ fn training_cost(soft: &[i16; 510], train: Train) -> u32
     total
 }
 
-#[tactic(auto, unfolding(crate::specs::Burst::kind))]
 /// The training sequence that costs less, and `N` where both cost the same.
+#[tactic(auto, unfolding(crate::specs::Burst::kind))]
 pub fn kind(soft: &[i16; 510]) -> Train
     requires { AllSoft soft.now }
     ensures { result ≡ kind soft.now }
 {
-    if training_cost(soft, Train::P) < training_cost(soft, Train::N) { Train::P } else { Train::N }
+    if training_cost(soft, Train::P) < training_cost(soft, Train::N) {
+        Train::P
+    } else {
+        Train::N
+    }
 }

@@ -5,6 +5,7 @@ ghost use Rattle.tetra_bits.specs.Soft.{AllSoft};
 ghost use Rattle.tetra_settings.specs.Slots.{byte_of};
 ghost use Rattle.tetra_session.specs.Built.{IsBuiltLetter};
 ghost use Rattle.tetra_session.specs.Burst.{kind};
+ghost use Rattle.tetra_session.specs.Fronts.{IsBounded};
 ghost use Rattle.tetra_session.specs.Heard.{letter_by, full_values, raw_values, fields_heard, fields_read};
 
 use crate::burst::{Train, kind, word_values};
@@ -30,18 +31,19 @@ pub fn letter_by(slot: SlotUse, soft: &[i16; 510]) -> Letter
     }
 }
 
-#[tactic(auto, unfolding(crate::specs::Heard::full_values))]
 /// The values of SCH/F, in type-3 order.
+#[tactic(auto, unfolding(crate::specs::Heard::full_values))]
 fn full_values(key: &Key, soft: &[i16; 510]) -> Soft
     requires { AllSoft soft.now }
     ensures values { result ≡ full_values key.now soft.now }
     ensures size { length result ≡ 432 }
+    ensures soft { AllSoft result }
 {
     Full::front(&word_values(soft), key)
 }
 
-#[tactic(auto, unfolding(crate::specs::Heard::raw_values))]
 /// The values of unprotected data, after the key.
+#[tactic(auto, unfolding(crate::specs::Heard::raw_values))]
 fn raw_values(key: &Key, soft: &[i16; 510]) -> Soft
     requires { AllSoft soft.now }
     ensures values { result ≡ raw_values key.now soft.now }
@@ -56,12 +58,16 @@ pub fn hear_field(letter: Letter, key: &Key, soft: &[i16; 510], field: &mut Fron
     requires built { IsBuiltLetter (byte_of letter) }
     ensures { field.new ∷ [] ≡ fields_heard letter key.now soft.now }
 {
-    if letter == Letter::F {
-        field.name = FieldName::Full;
-        field.soft = Some(full_values(key, soft));
-    } else {
-        field.name = FieldName::D72;
-        field.soft = Some(raw_values(key, soft));
+    match letter {
+        Letter::F => {
+            field.name = FieldName::Full;
+            field.soft = Some(full_values(key, soft));
+        }
+        Letter::T => {
+            field.name = FieldName::D72;
+            field.soft = Some(raw_values(key, soft));
+        }
+        _ => unreachable!(),
     }
 }
 
@@ -69,14 +75,19 @@ pub fn hear_field(letter: Letter, key: &Key, soft: &[i16; 510], field: &mut Fron
 pub fn read_field(letter: Letter, key: &Key, soft: &[i16; 510], field: &mut Field)
     requires soft { AllSoft soft.now }
     requires built { IsBuiltLetter (byte_of letter) }
-    ensures { field.new ∷ [] ≡ fields_read letter key.now soft.now }
+    ensures fields { field.new ∷ [] ≡ fields_read letter key.now soft.now }
+    ensures bounded { IsBounded field.new }
 {
-    if letter == Letter::F {
-        field.name = FieldName::Full;
-        Full::decode3_into(&full_values(key, soft), &mut field.reading);
-    } else {
-        field.name = FieldName::D72;
-        Raw72::decode1_into(&raw_values(key, soft), &mut field.reading);
+    match letter {
+        Letter::F => {
+            field.name = FieldName::Full;
+            Full::decode3_into(&full_values(key, soft), &mut field.reading);
+        }
+        Letter::T => {
+            field.name = FieldName::D72;
+            Raw72::decode1_into(&raw_values(key, soft), &mut field.reading);
+        }
+        _ => unreachable!(),
     }
 }
 

@@ -1,6 +1,9 @@
 // Laws of what is sent and what is read.
 ghost use Rattle.tetra_session.specs.Apart.{HeardApart, SentApart};
+ghost use Rattle.tetra_session.specs.Arrives.{SlotsArrive};
 ghost use Rattle.tetra_session.specs.Undamaged.{BurstArrives};
+
+use tetra_channels::{Full, Raw72};
 
 /// A law: where a burst arrives undamaged, the values of its blocks are undamaged, and its kind is the one that was
 /// sent.
@@ -19,3 +22,12 @@ pub fn sent_apart()
 pub fn heard_apart()
     ensures { HeardApart }
 {}
+
+/// A law: an undamaged slot of letter F or T, after any others, has the letter that was written. Its field equals the
+/// block, with its parity where it has one; the metric is 0, and the mark is Good where there is parity.
+pub fn slots_arrive()
+    ensures { SlotsArrive }
+{
+    Full::undamaged_is_read();
+    Raw72::undamaged_is_read();
+}

@@ -11,6 +11,6 @@ mod sender;
 
 pub use built::{is_built, is_built_letter};
 pub use front::{Front, FrontField};
-pub use laws::{burst_arrives, heard_apart, sent_apart};
+pub use laws::{burst_arrives, heard_apart, sent_apart, slots_arrive};
 pub use receiver::Receiver;
 pub use sender::Sender;

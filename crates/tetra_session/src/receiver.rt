@@ -1,5 +1,5 @@
 // Receiving, slot by slot.
-ghost use Rattle.std.specs.Prelude.{◌≡◌, ◌<◌, ◌++◌, ◌∷◌, [], List, ℤ, IsTrue, length};
+ghost use Rattle.std.specs.Prelude.{◌≡◌, ◌<◌, ◌++◌, ◌∷◌, [], List, ℤ, IsTrue, All};
 ghost use Rattle.tetra_bits.specs.Soft.{AllSoft};
 ghost use Rattle.tetra_scramble.specs.Key.{key_of};
 ghost use Rattle.tetra_settings.specs.Validity.{IsValid, IsInRanges};
@@ -11,7 +11,8 @@ use arrayvec::ArrayVec;
 use tetra_scramble::{Key, key};
 use tetra_settings::{Letter, Settings, SlotReading, slot_use};
 
-/// A receiver of slots. It stands for its settings and for the slots that it was given so far.
+/// A receiver of slots, four timeslots side by side. It stands for its settings and for the slots that it was given so
+/// far. This project's own.
 #[derive(Drop)]
 pub struct Receiver {
     settings: Settings,
@@ -24,6 +25,8 @@ pub struct Receiver {
 
 impl Receiver {
     ghost use Rattle.tetra_session.specs.Built.{IsBuilt, IsBuiltLetter};
+    ghost use Rattle.tetra_settings.specs.Readings.{IsWellFormed};
+    ghost use Rattle.tetra_session.specs.Fronts.{IsFront, IsBounded};
     ghost use Rattle.tetra_session.specs.Heard.{ReceiverStands, letter_heard, slot_letter, slot_front, slot_reading};
 
     /// A receiver before its first slot. The settings are valid, and built ones.
@@ -39,7 +42,8 @@ impl Receiver {
         }
     }
 
-    /// The letter of the slot whose turn it is, as a byte. This changes nothing.
+    /// The letter of the slot whose turn it is, as a byte, by the values of its 510 positions, each from -127 to 127. This
+    /// changes nothing.
     pub fn letter(&self, soft: &[i16; 510]) -> u8
         requires { AllSoft soft.now }
         ensures { result ≡ slot_letter self.now.settings self.now.turn soft.now }
@@ -55,14 +59,15 @@ impl Receiver {
         letter_by(slot_use(&self.settings, self.turn), soft)
     }
 
-    /// The letter of the slot whose turn it is, and the soft values of its fields. Each call is one slot; there are at
-    /// most 16,777,216.
+    /// The letter of the slot whose turn it is, and the soft values of its fields, from the values of its 510 positions,
+    /// each from -127 to 127. The letter is a built one. Each call is one slot; there are at most 16,777,216.
     pub fn front(&mut self, soft: &[i16; 510]) -> Front
         requires few { self.old.turn < 16777216 }
         requires soft { AllSoft soft.now }
         requires built { IsBuiltLetter (slot_letter self.old.settings self.old.turn soft.now) }
         ensures front { (settings : _) (history : List (List ℤ)) → ReceiverStands settings history self.old
             → result ≡ slot_front settings history soft.now }
+        ensures well_formed { IsFront result }
         ensures stands { (settings : _) (history : List (List ℤ)) → ReceiverStands settings history self.old
             → ReceiverStands settings (history ++ soft.now ∷ []) self.new }
     {
@@ -81,6 +86,7 @@ impl Receiver {
         requires built { IsBuiltLetter (slot_letter self.old.settings self.old.turn soft.now) }
         ensures front { (settings : _) (history : List (List ℤ)) → ReceiverStands settings history self.old
             → front.new ≡ slot_front settings history soft.now }
+        ensures well_formed { IsFront front.new }
         ensures stands { (settings : _) (history : List (List ℤ)) → ReceiverStands settings history self.old
             → ReceiverStands settings (history ++ soft.now ∷ []) self.new }
     {
@@ -91,13 +97,17 @@ impl Receiver {
         hear_field(letter, &self.key, soft, &mut front.fields[0]);
     }
 
-    /// The reading of the slot whose turn it is. Each call is one slot; there are at most 16,777,216.
+    /// The reading of the slot whose turn it is, from the values of its 510 positions, each from -127 to 127: of each
+    /// field the first-least message with its metric and its mark. The letter is a built one. Each call is one slot;
+    /// there are at most 16,777,216.
     pub fn slot(&mut self, soft: &[i16; 510]) -> SlotReading
         requires few { self.old.turn < 16777216 }
         requires soft { AllSoft soft.now }
         requires built { IsBuiltLetter (slot_letter self.old.settings self.old.turn soft.now) }
         ensures reading { (settings : _) (history : List (List ℤ)) → ReceiverStands settings history self.old
             → result ≡ slot_reading settings history soft.now }
+        ensures well_formed { IsWellFormed result }
+        ensures bounded { All IsBounded result.fields.items }
         ensures stands { (settings : _) (history : List (List ℤ)) → ReceiverStands settings history self.old
             → ReceiverStands settings (history ++ soft.now ∷ []) self.new }
     {
@@ -116,6 +126,8 @@ impl Receiver {
         requires built { IsBuiltLetter (slot_letter self.old.settings self.old.turn soft.now) }
         ensures reading { (settings : _) (history : List (List ℤ)) → ReceiverStands settings history self.old
             → reading.new ≡ slot_reading settings history soft.now }
+        ensures well_formed { IsWellFormed reading.new }
+        ensures bounded { All IsBounded reading.new.fields.items }
         ensures stands { (settings : _) (history : List (List ℤ)) → ReceiverStands settings history self.old
             → ReceiverStands settings (history ++ soft.now ∷ []) self.new }
     {

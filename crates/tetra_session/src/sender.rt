@@ -9,7 +9,8 @@ use tetra_channels::{Full, Raw72};
 use tetra_scramble::{Key, key};
 use tetra_settings::{Body, Settings, SlotBlocks};
 
-/// A sender of slots. It stands for its settings and for the blocks that it was given so far.
+/// A sender of slots, four timeslots side by side. It stands for its settings and for the blocks that it was given so
+/// far. This project's own.
 #[derive(Drop)]
 pub struct Sender {
     settings: Settings,
@@ -40,8 +41,8 @@ impl Sender {
         }
     }
 
-    /// The slot whose turn it is, with these blocks, which fit it: 127 for bit 0, -127 for bit 1, 0 where it is silent.
-    /// There are at most 16,777,216 slots.
+    /// The slot whose turn it is, with these blocks, which fit it and have a built letter: 510 positions, 127 for bit 0,
+    /// -127 for bit 1, 0 where the slot is silent (EN 300 392-2 clauses 8 and 9). There are at most 16,777,216 slots.
     pub fn slot(&mut self, blocks: &SlotBlocks) -> [i8; 510]
         requires few { self.old.turn < 16777216 }
         requires fits { Fits self.old.settings self.old.turn blocks.now }

@@ -1,3 +1,4 @@
 pub mod Outputs
 pub mod Ways
 pub mod Back
+pub mod Shown

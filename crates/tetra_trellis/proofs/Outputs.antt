@@ -1,15 +1,15 @@
 -- Labels and their costs.
 use Prim.Native.Nat.{zero, suc}
-use Rattle.std.proofs.Common.{◌≡◌, ℕ, ◌+◌, ◌-◌, ◌*◌, ◌/◌, ◌%◌, ◌<◌, ◌≤◌, ◌⊎◌, inl, inr, Bool, true, false, cond, nat_lt, List, [], ◌∷◌, length, get_or, ℤ, pos, arith, refl, sym, ap, ◌∙◌, ◌≢◌, set, get_or-set_other, get_or-set_same, FitsSigned, w16, rules}
+use Rattle.std.proofs.Common.{◌≡◌, ℕ, ◌+◌, ◌-◌, ◌*◌, ◌/◌, ◌%◌, ◌<◌, ◌≤◌, inl, inr, Bool, true, false, nat_lt, List, [], ◌∷◌, length, get_or, ℤ, pos, arith, refl, ap, ◌∙◌, ◌≢◌, set, get_or-set_other, get_or-set_same, FitsSigned, w16, rules}
 use Rattle.std.proofs.lemmas.Bool.{lt-ltb, le-ltb, cases_lt}
 use Rattle.tetra_bits.specs.Cost.{cost}
 use Rattle.tetra_bits.specs.Sums.{bit_number, sum_below}
-use Rattle.tetra_bits.specs.Soft.{value_at, IsSoft}
+use Rattle.tetra_bits.specs.Soft.{IsSoft}
 use Rattle.tetra_bits.proofs.Signs.{sum_same}
 use Rattle.tetra_mother.specs.Mother.{edge}
 use Rattle.tetra_puncture.specs.Plan.{CodePlan}
 use Rattle.tetra_puncture.specs.Trellis.{output_cost, step_cost}
-use Rattle.tetra_trellis.specs.Labels.{number_of, branch_output, branch_label, AreLabels, HasLabels, IsStep, AreCosts}
+use Rattle.tetra_trellis.specs.Labels.{number_of, branch_output, branch_label, AreLabels, IsStep, AreCosts}
 
 -- the outputs of a branch, and false past the last
 pub outputs_are : (taps : ℕ → ℕ → Bool) (outs s : ℕ) (b : Bool) (all : List Bool) →

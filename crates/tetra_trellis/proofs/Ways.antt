@@ -1,9 +1,9 @@
 -- Ways by labels are ways over branches.
-use Rattle.std.proofs.Common.{◌≡◌, ℕ, ◌+◌, ◌*◌, ◌<◌, ◌≤◌, Bool, true, false, min, List, [], get_or, ℤ, ap, sym, ◌∙◌}
+use Rattle.std.proofs.Common.{◌≡◌, ℕ, ◌+◌, ◌<◌, ◌≤◌, Bool, true, false, min, List, [], get_or, ℤ, ap, sym, ◌∙◌}
 use Rattle.tetra_bits.specs.Readings.{entry}
 use Rattle.tetra_mother.specs.Mother.{next_state}
 use Rattle.tetra_puncture.specs.Plan.{CodePlan}
-use Rattle.tetra_puncture.specs.Trellis.{step_cost, over_branch}
+use Rattle.tetra_puncture.specs.Trellis.{over_branch}
 use Rattle.tetra_puncture.specs.Decoding.{least_branch}
 use Rattle.tetra_puncture.proofs.Rows.{least_both, least_tail}
 use Rattle.tetra_trellis.specs.Labels.{AreLabels, IsStep, AreCosts}

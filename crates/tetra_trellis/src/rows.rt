@@ -9,20 +9,20 @@ ghost use Rattle.tetra_trellis.specs.Rows.{by_label};
 use crate::costs::{label_costs, step_values};
 use crate::labels::Labels;
 use tetra_bits::{Potentials, Wide};
-use tetra_mother::Mother;
+use tetra_mother::{Mother, next};
 use tetra_puncture::Plan;
 
 /// The cost of a branch from `state`, and the entry of the next row to which it leads.
-#[tactic(auto, unfolding(crate::specs::Rows::by_label, tetra_mother::specs::Mother::next_state))]
-fn over(costs: &[u32; 16], labels: &[usize; 16], after: &[u32; 16], state: usize, bit: bool) -> u32
+#[tactic(auto, unfolding(crate::specs::Rows::by_label))]
+fn over(costs: &[u32; 16], labels: &[usize; 16], after: &[u32; 16], state: u8, bit: bool) -> u32
     requires state { state < 16 }
     requires labels { (s : ℕ) → s < 16 → slice_index labels.now s < 16 }
     requires small { (w : ℕ) → w < 16 → slice_index costs.now w ≤ 508 }
     requires room { (s : ℕ) → s < 16 → slice_index after.now s ≤ 2 ^ 31 }
     ensures { result ≡ by_label costs.now labels.now after.now state bit }
 {
-    let next = state / 2 + if bit { 8 } else { 0 };
-    costs[labels[state]] + after[next]
+    let rest = after[usize::from(next(state, bit))];
+    costs[labels[usize::from(state)]] + rest
 }
 
 /// The row of the ways by bit 0.
@@ -33,8 +33,8 @@ fn ways_by_zero(costs: &[u32; 16], labels: &Labels, after: &[u32; 16]) -> [u32; 
     ensures { (s : ℕ) → s < 16 → slice_index result s ≡ by_label costs.now labels.now.zero after.now s false }
 {
     let mut row = [0; 16];
-    for state in 0..16 {
-        row[state] = over(costs, &labels.zero, after, state, false);
+    for state in 0..16u8 {
+        row[usize::from(state)] = over(costs, &labels.zero, after, state, false);
     }
     row
 }
@@ -48,9 +48,9 @@ fn lesser_ways(costs: &[u32; 16], labels: &Labels, after: &[u32; 16]) -> [u32; 1
     ensures { (s : ℕ) → s < 16 → slice_index result s ≡ min (by_label costs.now labels.now.zero after.now s false) (by_label costs.now labels.now.one after.now s true) }
 {
     let mut row = [0; 16];
-    for state in 0..16 {
+    for state in 0..16u8 {
         let zero = over(costs, &labels.zero, after, state, false);
-        row[state] = zero.min(over(costs, &labels.one, after, state, true));
+        row[usize::from(state)] = zero.min(over(costs, &labels.one, after, state, true));
     }
     row
 }

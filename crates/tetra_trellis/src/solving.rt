@@ -4,6 +4,7 @@ ghost use Rattle.tetra_bits.specs.Readings.{entry};
 ghost use Rattle.tetra_puncture.specs.Best.{best_of, message_metric};
 ghost use Rattle.tetra_puncture.specs.Rules.{IsAccepted};
 ghost use Rattle.tetra_puncture.specs.Spread.{spread_values};
+ghost use Rattle.tetra_puncture.specs.ToGo.{potentials_of};
 ghost use Rattle.tetra_puncture.specs.Trellis.{AllCostsToGo};
 
 use crate::labels::Labels;
@@ -12,17 +13,19 @@ use crate::tracing::trace;
 use tetra_bits::{Bits, Potentials, Soft};
 use tetra_puncture::{Plan, spread};
 
-/// The first-least message of a plan, its metric, and the potentials that certify it: `STEPS - 4` bits, and a row of
-/// 16 costs to go before each step and one behind the last, `STEPS + 1` rows.
+/// What a received block is solved to. This project's own.
 #[derive(Drop)]
 pub struct Solved {
+    /// The first-least message, `STEPS - 4` bits.
     pub message: Bits,
+    /// Its metric.
     pub metric: u32,
+    /// The costs to go, `STEPS + 1` rows: one before each step and one behind the last. They certify the message.
     pub potentials: Potentials,
 }
 
-/// Fills `message` and `potentials` as in `Solved`, and answers the metric. What they held before is gone. `soft` has
-/// `SENT` values.
+/// Fills `message` and `potentials` with those of `Solved`, and answers the metric. What they held before is gone. `soft`
+/// has `SENT` values.
 pub fn solve_into<P: Plan>(soft: &Soft, message: &mut Bits, potentials: &mut Potentials) -> u32
     requires sound { P.IsSound }
     requires size { length soft.now ≡ P.SENT }
@@ -32,6 +35,9 @@ pub fn solve_into<P: Plan>(soft: &Soft, message: &mut Bits, potentials: &mut Pot
     ensures rows { length potentials.new ≡ P.STEPS + 1 }
     ensures states { (t : ℕ) → t ≤ P.STEPS → length (slice_index_or potentials.new t []) ≡ 16 }
     ensures potentials { AllCostsToGo P.plan (spread_values P.plan soft.now) potentials.new }
+    ensures exact { potentials.new ≡ potentials_of P.plan soft.now }
+    ensures small { (t s : ℕ) → t ≤ P.STEPS → s < 16 → entry potentials.new t s ≤ 127 * P.SENT }
+    ensures small_metric { result ≤ 127 * P.SENT }
     ensures accepted { IsAccepted P.plan (spread_values P.plan soft.now) message.new potentials.new }
 {
     let wide = spread::<P>(soft);
@@ -41,7 +47,7 @@ pub fn solve_into<P: Plan>(soft: &Soft, message: &mut Bits, potentials: &mut Pot
     potentials.at(0, 0)
 }
 
-/// The first-least message over `SENT` soft values, its metric, and the costs to go.
+/// The first-least message of a plan over received soft values, its metric, and the costs to go. `soft` has `SENT` values.
 pub fn solve<P: Plan>(soft: &Soft) -> Solved
     requires sound { P.IsSound }
     requires size { length soft.now ≡ P.SENT }
@@ -51,6 +57,9 @@ pub fn solve<P: Plan>(soft: &Soft) -> Solved
     ensures rows { length result.potentials ≡ P.STEPS + 1 }
     ensures states { (t : ℕ) → t ≤ P.STEPS → length (slice_index_or result.potentials t []) ≡ 16 }
     ensures potentials { AllCostsToGo P.plan (spread_values P.plan soft.now) result.potentials }
+    ensures exact { result.potentials ≡ potentials_of P.plan soft.now }
+    ensures small { (t s : ℕ) → t ≤ P.STEPS → s < 16 → entry result.potentials t s ≤ 127 * P.SENT }
+    ensures small_metric { result.metric ≤ 127 * P.SENT }
     ensures accepted { IsAccepted P.plan (spread_values P.plan soft.now) result.message result.potentials }
 {
     let mut message = Bits::new();

@@ -1,4 +1,4 @@
-use Rattle.std.proofs.Common.{◌≡◌, ◌<◌, ◌≤◌, ◌+◌, ◌-◌, length, arith, refl, sym, ap, ◌∙◌}
+use Rattle.std.proofs.Common.{◌≡◌, ◌≤◌, ◌+◌, ◌-◌, length, arith, refl}
 use Rattle.tetra_parity.specs.Parity.{Holds16}
 use Rattle.tetra_parity.proofs.Messages.{all_agree, one_differs, says_true, says_false}
 use Rattle.tetra_parity.proofs.sixteen.holds16.Goals as goal

@@ -1,5 +1,4 @@
-use Rattle.std.proofs.Common.{◌≡◌, ◌<◌, ◌+◌, length, take, arith, sym, ap, ◌∙◌}
-use Rattle.tetra_parity.specs.Parity.{parity16}
+use Rattle.std.proofs.Common.{◌≡◌, take, arith, sym, ap, ◌∙◌}
 use Rattle.tetra_parity.proofs.Blocks.{held, held_first, register_next, register_last}
 use Rattle.tetra_parity.proofs.sixteen.parity_of.Goals as goal
 

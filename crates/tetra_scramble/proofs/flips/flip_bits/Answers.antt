@@ -1,6 +1,6 @@
-use Rattle.std.proofs.Common.{◌≡◌, ℕ, ◌+◌, ◌-◌, ◌*◌, ◌<◌, ◌≤◌, Bool, true, false, cond, List, [], length, get_or, arith, rules, refl, ap, sym, ◌∙◌}
-use Rattle.tetra_bits.specs.Numbered.{numbered, numbered_none, numbered_push, length-numbered}
-use Rattle.tetra_scramble.specs.Flips.{flipped_bit, flipped}
+use Rattle.std.proofs.Common.{length, arith, ap, sym, ◌∙◌}
+use Rattle.tetra_bits.specs.Numbered.{numbered_none, numbered_push, length-numbered}
+use Rattle.tetra_scramble.specs.Flips.{flipped_bit}
 use Rattle.tetra_scramble.proofs.Entries.{bit_flipped, all_flipped}
 use Rattle.tetra_scramble.proofs.flips.flip_bits.Goals as goal
 

@@ -1,7 +1,6 @@
-use Rattle.std.proofs.Common.{◌≡◌, ℕ, ◌+◌, ◌-◌, ◌*◌, ◌<◌, ◌≤◌, Bool, true, false, cond, List, [], length, get_or, arith, rules, refl, ap, sym, ◌∙◌}
-use Rattle.tetra_bits.specs.Digits.{digits}
+use Rattle.std.proofs.Common.{arith, ap, ◌∙◌}
 use Rattle.tetra_scramble.specs.Colour.{colour_bits}
-use Rattle.tetra_scramble.specs.Key.{IsKey, key_from, key_of}
+use Rattle.tetra_scramble.specs.Key.{key_from, key_of}
 use Rattle.tetra_scramble.proofs.Numbers.{three_in_one, three_digits, length-colour_bits}
 use Rattle.tetra_scramble.proofs.Recurrence.{key_is_key}
 use Rattle.tetra_scramble.proofs.register.key.Goals as goal

@@ -1,8 +1,8 @@
-use Rattle.std.proofs.Common.{◌≡◌, ℕ, ◌+◌, ◌-◌, ◌*◌, ◌<◌, ◌≤◌, Bool, true, false, cond, List, [], length, get_or, arith, rules, refl, ap, sym, ◌∙◌}
+use Rattle.std.proofs.Common.{◌≡◌, length, arith, ap, sym, ◌∙◌}
 use Rattle.tetra_bits.specs.Numbered.{numbered, numbered_none, numbered_push, length-numbered}
 use Rattle.tetra_bits.specs.Digits.{digits}
 use Rattle.tetra_scramble.specs.Key.{key_bit, key_from}
-use Rattle.tetra_scramble.proofs.Window.{window, window-lt, sum_is_bit, next_register, first_window}
+use Rattle.tetra_scramble.proofs.Window.{sum_is_bit, next_register, first_window}
 use Rattle.tetra_scramble.proofs.register.key_of_number.Goals as goal
 
 pub loop-init : goal.loop-init

@@ -1,7 +1,5 @@
-use Rattle.std.proofs.Common.{◌≡◌, ℕ, ◌+◌, ◌-◌, ◌*◌, ◌<◌, ◌≤◌, Bool, true, false, cond, List, [], length, get_or, arith, rules, refl, ap, sym, ◌∙◌}
-use Rattle.tetra_bits.specs.Digits.{digits}
-use Rattle.tetra_scramble.specs.Colour.{colour_bits}
-use Rattle.tetra_scramble.specs.Key.{IsKey, key_from, no_colour, zero_key_bits}
+use Rattle.std.proofs.Common.{ap, ◌∙◌}
+use Rattle.tetra_scramble.specs.Key.{key_from, no_colour, zero_key_bits}
 use Rattle.tetra_scramble.proofs.Numbers.{digits_of_none, length-no_colour}
 use Rattle.tetra_scramble.proofs.Recurrence.{key_is_key}
 use Rattle.tetra_scramble.proofs.register.zero_key.Goals as goal

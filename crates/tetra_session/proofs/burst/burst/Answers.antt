@@ -1,4 +1,4 @@
-use Rattle.std.proofs.Common.{◌≡◌, ◌+◌, ◌<◌, ◌≢◌, ℕ, ℤ, pos, length, get_or, set, arith, sym, ap, ◌∙◌, below_more, get_or-set_other, get_or-set_same, FitsSigned, w8, rules}
+use Rattle.std.proofs.Common.{◌≡◌, ◌+◌, ◌<◌, ◌≢◌, pos, length, get_or, set, arith, ap, ◌∙◌, below_more, get_or-set_other, get_or-set_same, FitsSigned, w8, rules}
 use Rattle.std.proofs.lemmas.Int.{to_z-of_z}
 use Rattle.std.proofs.lemmas.List.{length-set}
 use Rattle.tetra_bits.specs.Numbered.{is_numbered}
@@ -14,8 +14,8 @@ loop-i-preserved c =
     simp to_z-of_z (record {
       size = length-set c.loop-i.slot c.loop-i.i c.written.result ∙ c.loop-i.invariant.size;
       so_far = below_more (λ k. get_or (set c.loop-i.slot c.loop-i.i c.written.result) k (pos 0) ≡ burst_value c.args.train c.args.word.now (k + 1)) c.loop-i.i
-        (λ k h. let ne : k ≢ c.loop-i.i = omega arith in rw get_or-set_other (c.loop-i.invariant.so_far k h))
-        (rw get_or-set_same here);
+          (λ k h. let ne : k ≢ c.loop-i.i = omega arith in rw get_or-set_other (c.loop-i.invariant.so_far k h))
+          (rw get_or-set_same here);
     })
 
 pub returns : goal.returns

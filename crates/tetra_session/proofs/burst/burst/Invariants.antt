@@ -1,4 +1,4 @@
-use Rattle.std.proofs.Common.{◌≡◌, ◌+◌, ◌<◌, ℕ, ℤ, pos, length, get_or}
+use Rattle.std.proofs.Common.{◌≡◌, ◌+◌, ◌<◌, ℕ, pos, length, get_or}
 use Rattle.tetra_session.specs.Burst.{burst_value}
 use Rattle.tetra_session.proofs.burst.burst.Given as goal
 

@@ -1,9 +1,9 @@
-use Rattle.std.proofs.Common.{◌≡◌, ◌+◌, ◌≤◌, ◌*◌, pos, length, arith, refl, sym, ap, ◌∙◌, add-one, get_or, ℤ, List, ℕ, nat_eq, false, ◌<◌}
+use Rattle.std.proofs.Common.{◌≡◌, pos, length, arith, refl, ◌∙◌, add-one, ℕ, nat_eq, false, ◌<◌}
 use Rattle.std.proofs.lemmas.List.{get_or-map}
 use Rattle.tetra_bits.specs.Numbered.{get_or-numbered, length-numbered}
 use Rattle.tetra_bits.specs.Sums.{sum_below}
-use Rattle.tetra_bits.specs.Cost.{cost_at, cost, metric}
-use Rattle.tetra_session.specs.Burst.{training_values, training_value, training_cost, text_bits, training}
+use Rattle.tetra_bits.specs.Cost.{cost_at, metric}
+use Rattle.tetra_session.specs.Burst.{training_values, training_value, training_cost}
 use Rattle.tetra_session.proofs.burst.training_cost.Goals as goal
 
 pub loop-i-init : goal.loop-i-init
@@ -20,6 +20,6 @@ loop-i-preserved c =
 
 pub returns : goal.returns
 unfolding training_cost metric training_values
-returns c = 
+returns c =
     let end : c.loop-i.i ≡ 22 = omega arith in
     c.loop-i.invariant.so_far ∙ rw (end, c.training-sequence.ensures, length-numbered) refl

@@ -1,4 +1,4 @@
-use Rattle.std.proofs.Common.{◌≡◌, ◌+◌, ◌<◌, length, arith, sym, ap, ◌∙◌, ◌-◌, FitsSigned, w16, rules}
+use Rattle.std.proofs.Common.{◌≡◌, ◌+◌, length, arith, sym, ap, ◌∙◌, ◌-◌, FitsSigned, w16, rules}
 use Rattle.std.proofs.lemmas.Int.{to_z-of_z}
 use Rattle.tetra_bits.specs.Numbered.{numbered, numbered_none, numbered_push, length-numbered}
 use Rattle.tetra_bits.specs.Soft.{value_at}

@@ -1,6 +1,5 @@
-use Rattle.std.proofs.Common.{FitsSigned, w16, get_or, pos, rules, ℕ, ◌<◌, arith}
-use Rattle.std.proofs.lemmas.Int.{to_z-of_z, ints}
-use Rattle.tetra_bits.specs.Soft.{IsSoft}
+use Rattle.std.proofs.Common.{FitsSigned, w16, get_or, pos, arith}
+use Rattle.std.proofs.lemmas.Int.{to_z-of_z}
 use Rattle.tetra_trellis.proofs.Outputs.{pairs_are_costs, soft_fits}
 use Rattle.tetra_trellis.proofs.costs.label_costs.Goals as goal
 

@@ -1,6 +1,5 @@
-use Rattle.std.proofs.Common.{◌≡◌, ℕ, ◌<◌, ◌≤◌, ◌+◌, ◌∙◌, inl, inr, arith, get_or, set, ap, get_or-set_other, get_or-set_same}
+use Rattle.std.proofs.Common.{◌≡◌, ◌∙◌, arith}
 use Rattle.std.proofs.Math.ListN.{length-set}
-use Rattle.std.proofs.lemmas.Bool.{cases_lt}
 use Rattle.tetra_trellis.specs.Labels.{AreLabels, branch_label}
 use Rattle.tetra_trellis.proofs.Outputs.{outputs_are, label_is, one_more}
 use Rattle.tetra_trellis.proofs.labels.labels_of.Goals as goal

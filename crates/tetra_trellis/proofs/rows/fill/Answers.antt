@@ -1,7 +1,6 @@
-use Rattle.std.proofs.Common.{◌≡◌, ◌≢◌, ◌<◌, ◌≤◌, ◌+◌, ◌-◌, ◌*◌, ◌∙◌, rules, ℕ, [], length, get_or, set, replicate, arith, ap, sym, refl, get_or-set_same, get_or-set_other}
+use Rattle.std.proofs.Common.{◌≡◌, ◌≤◌, ◌+◌, ◌-◌, ◌∙◌, rules, length, arith, sym, refl}
 use Rattle.std.proofs.lemmas.List.{get_or-replicate}
-use Rattle.tetra_bits.specs.Readings.{entry}
-use Rattle.tetra_puncture.proofs.Rows.{BackFrom, back_step, back_backward}
+use Rattle.tetra_puncture.proofs.Rows.{BackFrom, back_step}
 use Rattle.tetra_trellis.proofs.Back.{first_row, states_more}
 use Rattle.tetra_trellis.proofs.rows.fill.Goals as goal
 

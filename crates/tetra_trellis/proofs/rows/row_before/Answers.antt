@@ -1,4 +1,4 @@
-use Rattle.std.proofs.Common.{◌≡◌, ◌<◌, ◌≤◌, ◌+◌, ℕ, true, false, [], get_or, arith, ap, sym, subst}
+use Rattle.std.proofs.Common.{ℕ, true, false, get_or, arith, ap, sym, subst}
 use Rattle.tetra_bits.specs.Readings.{entry}
 use Rattle.tetra_trellis.specs.Labels.{IsStep}
 use Rattle.tetra_trellis.proofs.Outputs.{labels_small}

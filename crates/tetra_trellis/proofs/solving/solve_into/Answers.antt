@@ -1,45 +1,38 @@
-use Rattle.std.proofs.Common.{◌≡◌, ◌<◌, ◌≤◌, ◌+◌, ℕ, arith, ap, sym, subst, ◌∙◌}
-use Rattle.tetra_bits.specs.Readings.{entry}
-use Rattle.tetra_puncture.specs.Plan.{IsMessage}
+use Rattle.std.proofs.Common.{◌+◌, ap, sym, subst, arith, rules, ◌∙◌}
+use Rattle.tetra_bits.specs.Soft.{AllSoft}
+use Rattle.tetra_puncture.specs.Certified.{Fits}
 use Rattle.tetra_puncture.specs.Decoding.{IsBackward, IsTraced}
-use Rattle.tetra_puncture.specs.Rules.{IsAccepted}
-use Rattle.tetra_puncture.specs.Spread.{spread_values}
-use Rattle.tetra_puncture.specs.Certified.{Fits, IsCertified}
-use Rattle.tetra_puncture.proofs.Rows.{traced_accepted, backward_is_cost_to_go}
-use Rattle.tetra_puncture.specs.Trellis.{AllCostsToGo}
-use Rattle.tetra_puncture.proofs.Certificates.{certified}
+use Rattle.tetra_trellis.proofs.Shown.{IsSolved, solved}
 use Rattle.tetra_trellis.proofs.solving.solve_into.Goals as goal
 
-pub returns-clause-accepted : goal.returns-clause-accepted
-returns-clause-accepted g c =
-    subst (λ wide. IsAccepted g.P.Plan.plan wide c.trace.new.message c.fill.new.potentials) c.spread-wide.ensures.values
-    (traced_accepted g.P.Plan.plan c.spread-wide.result c.fill.new.potentials c.fill.ensures.backward c.trace.new.message c.trace.ensures.message c.trace.ensures.traced)
-
-pub returns-clause-message : goal.returns-clause-message
-returns-clause-message g c =
+pub returns : goal.returns
+returns g c =
     let law = g.met.P.Plan in
-    let fits : Fits g.P.Plan.plan c.args.soft.now c.trace.new.message = record {
+    let p = g.P.Plan.plan in
+    let r = c.args.soft.now in
+    let m = c.trace.new.message in
+    let table = c.fill.new.potentials in
+    let fits : Fits p r m = record {
       sizes = law.sizes c.requires.sound;
       rise = law.rise c.requires.sound;
       lie = law.lie c.requires.sound;
       message = c.trace.ensures.message;
       values = c.requires.size ∙ sym law.same_sent;
     } in
-    (certified g.P.Plan.plan c.args.soft.now c.trace.new.message c.fill.new.potentials fits (returns-clause-accepted g c)).is_best
-
-pub returns-clause-metric : goal.returns-clause-metric
-returns-clause-metric g c =
-    let law = g.met.P.Plan in
-    let fits : Fits g.P.Plan.plan c.args.soft.now c.trace.new.message = record {
-      sizes = law.sizes c.requires.sound;
-      rise = law.rise c.requires.sound;
-      lie = law.lie c.requires.sound;
-      message = c.trace.ensures.message;
-      values = c.requires.size ∙ sym law.same_sent;
-    } in
-    c.at.ensures ∙ (certified g.P.Plan.plan c.args.soft.now c.trace.new.message c.fill.new.potentials fits (returns-clause-accepted g c)).metric_is
-
-pub returns-clause-potentials : goal.returns-clause-potentials
-returns-clause-potentials g c =
-    subst (λ wide. AllCostsToGo g.P.Plan.plan wide c.fill.new.potentials) c.spread-wide.ensures.values
-    (backward_is_cost_to_go g.P.Plan.plan c.spread-wide.result c.fill.new.potentials c.fill.ensures.backward)
+    let soft : AllSoft c.spread-wide.result = search rules in
+    let all : IsSolved p r m table = solved p r m table fits
+    (subst AllSoft c.spread-wide.ensures.values soft) c.fill.ensures.rows c.fill.ensures.states
+    (subst (λ wide. IsBackward p wide table) c.spread-wide.ensures.values c.fill.ensures.backward)
+    (subst (λ wide. IsTraced p wide table m) c.spread-wide.ensures.values c.trace.ensures.traced) in
+    record {
+      message = all.message;
+      size = c.trace.ensures.message ∙ law.same_steps;
+      metric = c.at.ensures ∙ all.metric;
+      rows = c.fill.ensures.rows ∙ ap (λ n. n + 1) law.same_steps;
+      states = λ t within. c.fill.ensures.states t (omega (arith, law.same_steps));
+      potentials = all.costs;
+      exact = all.exact;
+      small = λ t s within h. omega (arith, law.same_steps, law.same_sent, all.small t s (omega (arith, law.same_steps)) h);
+      small_metric = omega (arith, law.same_sent, c.at.ensures, all.small 0 0 (omega arith) (omega arith));
+      accepted = all.accepted;
+    }

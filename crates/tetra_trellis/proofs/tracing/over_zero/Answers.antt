@@ -1,4 +1,4 @@
-use Rattle.std.proofs.Common.{◌≡◌, ◌<◌, ◌≤◌, ◌+◌, ◌*◌, ℕ, true, false, get_or, arith, ap, sym, subst, ◌∙◌, Fits, w64, rules}
+use Rattle.std.proofs.Common.{◌≡◌, ◌<◌, ◌+◌, ℕ, false, get_or, arith, ap, sym, subst, ◌∙◌, rules}
 use Rattle.tetra_bits.specs.Readings.{entry}
 use Rattle.tetra_mother.specs.Mother.{next_state}
 use Rattle.tetra_puncture.specs.Trellis.{step_cost, over_branch}

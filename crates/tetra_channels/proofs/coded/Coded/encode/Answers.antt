@@ -1,4 +1,4 @@
-use Rattle.std.proofs.Common.{arith, length, false, ap, sym, ◌∙◌}
+use Rattle.std.proofs.Common.{length, false, ap, sym, ◌∙◌}
 use Rattle.tetra_interleave.specs.Block.{interleaved}
 use Rattle.tetra_interleave.proofs.Places.{length-interleaved}
 use Rattle.tetra_scramble.specs.Flips.{flipped}

@@ -1,11 +1,6 @@
-use Rattle.std.proofs.Common.{arith, length, ap, ◌∙◌}
+use Rattle.std.proofs.Common.{length, ap, ◌∙◌}
 use Rattle.tetra_scramble.proofs.Entries.{length-flipped}
-use Rattle.tetra_channels.specs.Channels.{raw_bits}
 use Rattle.tetra_channels.proofs.raw.Raw72.encode.Goals as goal
-
-pub returns-clause-bits : goal.returns-clause-bits
-unfolding raw_bits
-returns-clause-bits c = c.flip_bits.ensures
 
 pub returns-clause-size : goal.returns-clause-size
 returns-clause-size c = ap length c.flip_bits.ensures ∙ length-flipped c.args.block.now c.args.key.now 1 ∙ c.requires

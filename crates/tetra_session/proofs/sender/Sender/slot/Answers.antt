@@ -1,4 +1,4 @@
-use Rattle.std.proofs.Common.{refl, ◌≡◌, ap, ◌∙◌, length, arith}
+use Rattle.std.proofs.Common.{refl, ap, ◌∙◌, arith}
 use Rattle.tetra_session.specs.Burst.{burst}
 use Rattle.tetra_session.specs.Sent.{slot_written}
 use Rattle.tetra_session.specs.declared.burst.Train.TheVariants.{N}

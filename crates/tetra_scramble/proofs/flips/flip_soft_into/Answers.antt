@@ -1,13 +1,13 @@
-use Rattle.std.proofs.Common.{◌≡◌, ℕ, ◌+◌, ◌-◌, ◌*◌, ◌<◌, ◌≤◌, Bool, true, false, cond, List, [], length, get_or, arith, rules, refl, ap, sym, ◌∙◌}
+use Rattle.std.proofs.Common.{◌≡◌, length, arith, rules, ap, sym, ◌∙◌}
 use Rattle.std.proofs.Common.{to_z, of_z, w16}
 use Rattle.std.proofs.lemmas.Int.{to_z-of_z}
-use Rattle.tetra_bits.specs.Numbered.{numbered, numbered_none, numbered_push, length-numbered}
-use Rattle.tetra_scramble.specs.Flips.{turned_value, turned}
+use Rattle.tetra_bits.specs.Numbered.{numbered_none, numbered_push, length-numbered}
+use Rattle.tetra_scramble.specs.Flips.{turned_value}
 use Rattle.tetra_scramble.proofs.Entries.{sign_turned, all_turned}
-use Rattle.tetra_scramble.proofs.flips.flip_soft.Goals as goal
+use Rattle.tetra_scramble.proofs.flips.flip_soft_into.Goals as goal
 
 pub loop-i-init : goal.loop-i-init
-loop-i-init c = c.new-values.ensures ∙ sym (numbered_none (turned_value c.args.x.now c.args.key.now c.args.from))
+loop-i-init c = c.clear.ensures ∙ sym (numbered_none (turned_value c.args.x.now c.args.key.now c.args.from))
 
 pub push-requires-clause-room : goal.push-requires-clause-room
 push-requires-clause-room c = omega (arith, ap length c.loop-i.invariant, length-numbered (turned_value c.args.x.now c.args.key.now c.args.from) c.loop-i.i)

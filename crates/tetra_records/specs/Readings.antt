@@ -1,0 +1,56 @@
+-- How a reading is spelled. Numbers of two bytes have the higher byte first. This project's own.
+use Rattle.std.specs.Prelude.{ℕ, ◌≤◌, ◌/◌, ◌%◌, List, [], ◌∷◌, ◌++◌, None, Some}
+use Rattle.std.specs.List.{All, flat_map}
+use Rattle.std.specs.declared.option.Option.{Option}
+use Rattle.tetra_bits.specs.Packed.{packed}
+use Rattle.tetra_bits.specs.Readings.{entry}
+use Rattle.tetra_bits.specs.declared.reading.Mark.{Mark}
+use Rattle.tetra_bits.specs.declared.reading.Mark.TheVariants.{Good, Bad, Unchecked, NotYet}
+use Rattle.tetra_settings.specs.declared.readings.Field.{Field}
+use Rattle.tetra_settings.specs.declared.readings.SlotReading.{SlotReading}
+use Rattle.tetra_settings.specs.declared.types.Form.{Form}
+use Rattle.tetra_settings.specs.declared.types.Form.TheVariants.{Plain, Audit}
+
+-- the bytes of the marks: G, B, U and N
+abbrev pub mark_byte : Mark → ℕ
+mark_byte Good = 71
+mark_byte Bad = 66
+mark_byte Unchecked = 85
+mark_byte NotYet = 78
+
+-- a number below 2^16 in two bytes
+abbrev pub two_bytes : ℕ → List ℕ
+two_bytes n = n / 256 ∷ n % 256 ∷ []
+
+-- a row of potentials
+unfoldable pub row_bytes : List ℕ → List ℕ
+row_bytes row = flat_map two_bytes row
+
+-- all rows, one behind the other
+unfoldable pub table_bytes : List (List ℕ) → List ℕ
+table_bytes rows = flat_map row_bytes rows
+
+-- the certificate of a field: in form audit, where it has potentials
+abbrev pub certificate_bytes : Form → Option (List (List ℕ)) → List ℕ
+certificate_bytes Plain potentials = []
+certificate_bytes Audit None = []
+certificate_bytes Audit (Some rows) = table_bytes rows
+
+-- a field: its mark, its metric, its bits, and its certificate
+unfoldable pub field_bytes : Form → Field → List ℕ
+field_bytes form field =
+    (mark_byte field.reading.mark ∷ two_bytes field.reading.metric) ++ packed field.reading.bits ++ certificate_bytes form field.reading.potentials
+
+-- a reading: its letter and its fields
+unfoldable pub reading_spelling : Form → SlotReading → List ℕ
+reading_spelling form reading = (reading.letter ∷ []) ++ flat_map (field_bytes form) reading.fields.items
+
+-- each potential fits two bytes
+abbrev pub AreSmall : Option (List (List ℕ)) → Type 0
+AreSmall None = Unit {0}
+AreSmall (Some rows) = (t s : ℕ) → entry rows t s ≤ 65535
+
+-- the metric of a field and each of its potentials fit two bytes
+pub record IsSmall (field : Field) : Type 0 where
+  pub metric : field.reading.metric ≤ 65535
+  pub potentials : AreSmall field.reading.potentials

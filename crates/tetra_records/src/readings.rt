@@ -1,0 +1,105 @@
+// Reading records.
+ghost use Rattle.std.specs.Prelude.{◌≡◌, ◌<◌, ◌≤◌, ◌+◌, ◌*◌, ◌/◌, ◌++◌, ◌∷◌, [], ℕ, length, slice_index};
+ghost use Rattle.std.specs.List.{All};
+ghost use Rattle.arrayvec.specs.ArrayVec.{array_vec_len};
+ghost use Rattle.tetra_bits.specs.Readings.{entry};
+ghost use Rattle.tetra_bits.specs.Packed.{bytes_for};
+ghost use Rattle.tetra_settings.specs.Readings.{IsWellFormed, IsField};
+ghost use Rattle.tetra_records.specs.Readings.{mark_byte, two_bytes, row_bytes, table_bytes, field_bytes, reading_spelling, IsSmall};
+ghost use Rattle.tetra_records.specs.Rooms.{room_of};
+
+use arrayvec::ArrayVec;
+use tetra_bits::{Mark, Potentials, pack};
+use tetra_settings::{Field, Form, SlotReading};
+
+/// The most bytes that a reading record has: on the downlink a letter P with its access field, two half slots and
+/// protected data, each with its certificate.
+pub const LONGEST_READING: usize = 18743;
+
+/// The reading record: a letter, and for each field a mark, a metric of two bytes, the bits packed, and in form `Audit` the
+/// certificate of a trellis field, a row of 16 potentials before each step and one behind the last, two bytes each. The
+/// reading is well formed, and each metric and potential is at most 65,535. This project's own.
+pub fn reading_bytes(reading: &SlotReading, form: Form) -> ArrayVec<u8, 18743>
+    requires formed { IsWellFormed reading.now }
+    requires small { All IsSmall reading.now.fields.items }
+    ensures { result.items ≡ reading_spelling form reading.now }
+{
+    let mut record = ArrayVec::new();
+    add_reading(reading, form, &mut record);
+    record
+}
+
+/// Puts the reading record behind what stands in `out`, which has room for the longest one.
+pub fn add_reading<const N: usize>(reading: &SlotReading, form: Form, out: &mut ArrayVec<u8, N>)
+    requires formed { IsWellFormed reading.now }
+    requires small { All IsSmall reading.now.fields.items }
+    requires room { array_vec_len out.old + 18743 ≤ N }
+    ensures { out.new.items ≡ out.old.items ++ reading_spelling form reading.now }
+{
+    out.push(reading.letter);
+    for field in reading.fields.as_slice() {
+        add_field(field, form, out);
+    }
+}
+
+fn byte_of(mark: Mark) -> u8
+    ensures { result ≡ mark_byte mark }
+{
+    match mark {
+        Mark::Good => b'G',
+        Mark::Bad => b'B',
+        Mark::Unchecked => b'U',
+        Mark::NotYet => b'N',
+    }
+}
+
+#[tactic(auto, unfolding(crate::specs::Readings::field_bytes))]
+fn add_field<const N: usize>(field: &Field, form: Form, out: &mut ArrayVec<u8, N>)
+    requires field { IsField field.now }
+    requires small { IsSmall field.now }
+    requires room { array_vec_len out.old + room_of field.now.name ≤ N }
+    ensures bytes { out.new.items ≡ out.old.items ++ field_bytes form field.now }
+    ensures len { array_vec_len out.new ≤ array_vec_len out.old + room_of field.now.name }
+{
+    let reading = &field.reading;
+    out.push(byte_of(reading.mark));
+    add_number(reading.metric, out);
+    let bits = pack(&reading.bits);
+    out.try_extend_from_slice(bits.as_slice()).unwrap();
+    if let (Form::Audit, Some(potentials)) = (form, &reading.potentials) {
+        add_table(potentials, out);
+    }
+}
+
+fn add_number<const N: usize>(number: u32, out: &mut ArrayVec<u8, N>)
+    requires small { number ≤ 65535 }
+    requires room { array_vec_len out.old + 2 ≤ N }
+    ensures bytes { out.new.items ≡ out.old.items ++ two_bytes number }
+    ensures len { array_vec_len out.new ≡ array_vec_len out.old + 2 }
+{
+    out.push((number / 256) as u8);
+    out.push((number % 256) as u8);
+}
+
+fn add_row<const N: usize>(row: &[u32; 16], out: &mut ArrayVec<u8, N>)
+    requires small { (s : ℕ) → slice_index row.now s ≤ 65535 }
+    requires room { array_vec_len out.old + 32 ≤ N }
+    ensures bytes { out.new.items ≡ out.old.items ++ row_bytes row.now }
+    ensures len { array_vec_len out.new ≡ array_vec_len out.old + 32 }
+{
+    for s in 0..16usize {
+        add_number(row[s], out);
+    }
+}
+
+#[tactic(auto, unfolding(tetra_bits::specs::Readings::entry))]
+fn add_table<const N: usize>(potentials: &Potentials, out: &mut ArrayVec<u8, N>)
+    requires small { (t s : ℕ) → entry potentials.now t s ≤ 65535 }
+    requires room { array_vec_len out.old + 32 * length potentials.now ≤ N }
+    ensures bytes { out.new.items ≡ out.old.items ++ table_bytes potentials.now }
+    ensures len { array_vec_len out.new ≡ array_vec_len out.old + 32 * length potentials.now }
+{
+    for t in 0..potentials.rows() {
+        add_row(potentials.row(t), out);
+    }
+}

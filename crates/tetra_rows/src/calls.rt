@@ -1,0 +1,39 @@
+// No clause says that the values of a byte, the sent places and the parity of SCH/F are the ones that are written down.
+// These are values of single calls that were worked out by hand.
+use tetra_bits::{Bits, cost, soft_of};
+use tetra_channels::Full;
+use tetra_puncture::{TwoThirds, keep};
+
+#[test]
+fn values_of_bytes(rt: HostRuntime) {
+    for (byte, value) in [(0x80, -127), (0x81, -127), (0x7F, 127), (0xFF, -1), (0x00, 0)] {
+        assert_eq!(rt; soft_of(byte), value, "of {byte}");
+    }
+    for (value, bit, expected) in [(-127, false, 127), (-127, true, 0), (0, true, 0), (5, true, 5)] {
+        assert_eq!(rt; cost(value, bit), expected, "of {bit} at {value}");
+    }
+}
+
+/// A bit and so many zeros.
+fn first_and_zeros(first: bool, zeros: usize) -> Bits {
+    let mut bits = Bits::new();
+    bits.push(first);
+    for _ in 0..zeros {
+        bits.push(false);
+    }
+    bits
+}
+
+#[test]
+fn sent_words(rt: HostRuntime) {
+    let word = keep::<TwoThirds<80, 120>>(&first_and_zeros(true, 75));
+    for (k, bit) in b"111010110".iter().enumerate() {
+        assert!(rt; k < word.len());
+        assert_eq!(rt; word.get(k), *bit == b'1', "bit {k}");
+    }
+    let word = Full::type3(&first_and_zeros(false, 267));
+    for k in 0..408usize {
+        assert!(rt; k < word.len());
+        assert_eq!(rt; word.get(k), k == 404 || k == 406, "bit {k}");
+    }
+}

@@ -1,0 +1,137 @@
+// No clause says that the code, the certificates and the verdicts are those of the plain sums and rules. Blocks of drawn
+// bits are sent and judged both ways.
+use crate::plain::{code, rules};
+use crate::runs::{SURE, run_over};
+use rand_core::utils::NextWord;
+use rand_pcg::Pcg32;
+use std::alloc::{AllocError, Global};
+use std::process::Abort;
+use std::test::Fail;
+
+/// So many drawn bits, packed with zeros behind them to the end of a byte.
+fn drawn(alloc: Global, pcg: &mut Pcg32, bytes: usize, spare: u32) -> Result<Vec<u8>, AllocError> {
+    let mut packed = Vec::new(alloc);
+    for _ in 0..bytes {
+        packed.push(pcg.next_word().to_be_bytes()[0])?;
+    }
+    if let Some(last) = packed.last_mut() {
+        *last = *last >> spare << spare;
+    }
+    Ok(packed)
+}
+
+fn bit(packed: &[u8], k: usize) -> bool {
+    packed.get(k / 8).is_some_and(|byte| byte >> (7 - k % 8) & 1 == 1)
+}
+
+fn turn(file: &mut [u8], place: usize, bits: u8) {
+    if let Some(byte) = file.get_mut(place) {
+        *byte ^= bits;
+    }
+}
+
+fn signalling(packed: &[u8], scrambling: &[bool; 464]) -> [u8; 510] {
+    let mut block = [false; 268];
+    for k in 0..268usize {
+        block[k] = bit(packed, k);
+    }
+    code::burst(&code::signalling(&block, scrambling))
+}
+
+fn data(packed: &[u8], scrambling: &[bool; 464]) -> [u8; 510] {
+    let mut block = [false; 432];
+    for k in 0..432usize {
+        block[k] = bit(packed, k);
+    }
+    code::burst(&code::traffic(&block, scrambling))
+}
+
+#[test]
+fn sent_as_by_sums(rt: HostRuntime) -> Result<(), Fail> {
+    let mut pcg = Pcg32::new(1, 1);
+    let rows = [
+        ("encode dir=ul ts2=d72", [0, 0, 0]),
+        ("encode dir=ul ts2=d72 mcc=512", [512, 0, 0]),
+        ("encode dir=ul ts2=d72 mcc=901 mnc=16383 cc=1", [901, 16_383, 1]),
+        ("encode cc=62 dir=ul mnc=4660 ts2=d72", [0, 4_660, 62]),
+    ];
+    for (words, [mcc, mnc, cc]) in rows {
+        let scrambling = code::scrambling(&code::colour(mcc, mnc, cc));
+        let full = drawn(rt.alloc(), &mut pcg, 34, 4)?;
+        let load = drawn(rt.alloc(), &mut pcg, 54, 0)?;
+        let mut input = Vec::from_slice(rt.alloc(), b"F")?;
+        input.extend_from_slice(&full)?;
+        input.push(b'T')?;
+        input.extend_from_slice(&load)?;
+        let mut output = Vec::from_slice(rt.alloc(), &signalling(&full, &scrambling))?;
+        output.extend_from_slice(&data(&load, &scrambling))?;
+        let ran = run_over(rt.alloc(), words, &input, SURE, 1_020)?;
+        assert_eq!(rt; ran.end.as_str(), "0 2 ", "{words}");
+        for k in 0..1_020usize {
+            assert_eq!(rt; ran.output.get(k), output.get(k), "position {k} of {words}");
+        }
+    }
+    Ok(())
+}
+
+/// A slot of drawn bits, of which each value has a drawn size and one in twelve the wrong sign.
+fn received(alloc: Global, scrambling: &[bool; 464]) -> Result<[u8; 510], AllocError> {
+    let mut pcg = Pcg32::new(2, 1);
+    let mut slot = signalling(&drawn(alloc, &mut pcg, 34, 4)?, scrambling);
+    for k in 0..510usize {
+        let [_, _, sign, size] = pcg.next_word().to_be_bytes();
+        let size = size % 128;
+        slot[k] = if (slot[k] < 0x80) == (sign % 12 != 0) {
+            size
+        } else {
+            size.wrapping_neg()
+        };
+    }
+    Ok(slot)
+}
+
+/// Whether a byte is turned: some of the slot, all of the record before the certificate, and some of the certificate,
+/// more of its first and its last rows.
+fn is_turned(place: usize) -> bool {
+    match place {
+        0..510 => place % 7 == 0,
+        510..582 => true,
+        582..9_638 => place % 97 == 0,
+        _ => place % 3 == 0,
+    }
+}
+
+/// Asserts that an audit says what the rules say.
+fn agrees(rt: &(impl Abort + AllocGlobal), file: &[u8], scrambling: &[bool; 464], at: usize) -> Result<(), Fail> {
+    let line = rules::line(rt.alloc(), file, scrambling)?;
+    let end = if line.as_str() == "0 ok\n" {
+        "0 1 "
+    } else {
+        "1 1 refused: first slot 0, count 1"
+    };
+    let words = "audit dir=ul mcc=901 mnc=16383 cc=1";
+    let ran = run_over(rt.alloc(), words, file, SURE, 128)?;
+    assert_eq!(rt; ran.output.as_slice(), line.as_bytes(), "with byte {at} turned");
+    assert_eq!(rt; ran.end.as_str(), end, "with byte {at} turned");
+    Ok(())
+}
+
+#[test]
+fn judged_as_by_rules(rt: HostRuntime) -> Result<(), Fail> {
+    let scrambling = code::scrambling(&code::colour(901, 16_383, 1));
+    let slot = received(rt.alloc(), &scrambling)?;
+    let words = "decode form=audit dir=ul mcc=901 mnc=16383 cc=1";
+    let mut file = run_over(rt.alloc(), words, &slot, SURE, 9_798)?.output;
+    let line = rules::line(rt.alloc(), &file, &scrambling)?;
+    assert_eq!(rt; line.as_str(), "0 ok\n");
+    for place in 0..9_798usize {
+        for turned in [0x01, 0x80, 0xFF] {
+            if is_turned(place) {
+                turn(&mut file, place, turned);
+                agrees(&rt, &file, &scrambling, place)?;
+                turn(&mut file, place, turned);
+            }
+        }
+    }
+    Ok(())
+}

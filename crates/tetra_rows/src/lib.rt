@@ -1,0 +1,20 @@
+//! Tests alone: runs of the program over sources and sinks in memory, as tables, and the code by sums and index
+//! formulas beside the faster one.
+#![tactic(auto)]
+
+#[cfg(test)]
+mod bytes;
+#[cfg(test)]
+mod calls;
+#[cfg(test)]
+mod drawn;
+#[cfg(test)]
+mod faults;
+#[cfg(test)]
+mod plain;
+#[cfg(test)]
+mod rows;
+#[cfg(test)]
+mod runs;
+#[cfg(test)]
+mod words;

@@ -1,0 +1,5 @@
+use Rattle.tetra_scramble.proofs.Entries.{stays_undamaged}
+use Rattle.tetra_scramble.proofs.laws.stays_undamaged.Goals as goal
+
+pub returns : goal.returns
+returns c = stays_undamaged

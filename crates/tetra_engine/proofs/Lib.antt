@@ -4,3 +4,4 @@ pub mod Fronts
 pub mod Framed
 pub mod Audited
 pub mod Unambiguous
+pub mod Ends

@@ -3,8 +3,9 @@ use Rattle.std.specs.Prelude.{◌≡◌, ◌<◌, ◌≤◌, ℕ, List, [], ◌�
 use Rattle.tetra_bits.specs.Soft.{AllSoft}
 use Rattle.tetra_settings.specs.Validity.{IsValid}
 use Rattle.tetra_engine.specs.declared.auditor.Auditor.{Auditor}
+use Rattle.tetra_session.specs.Fronts.{IsFront}
 use Rattle.tetra_session.specs.Heard.{ReceiverStands}
-use Rattle.tetra_engine.specs.BelowReading.{claim_length, IsFramed}
+use Rattle.tetra_engine.specs.BelowReading.{claim_length}
 use Rattle.tetra_engine.specs.Auditing.{Claimed, slots_of, front_at, refused_slots}
 use Rattle.tetra_engine.specs.Refusals.{Counts}
 use Rattle.tetra_engine.specs.Slots.{soft_values}
@@ -23,7 +24,7 @@ pub record AuditorHolds (a : Auditor) (before : List Claimed) (input : Claimed) 
   pub counted : a.refusals.count < 16777216
   pub slot : a.slot ≡ length before
   pub front : a.front ≡ front_at a.settings before input.0
-  pub is_framed : IsFramed a.front
+  pub formed : IsFront a.front
   pub size : a.len ≡ claim_length a.front
   pub within : a.len ≤ 18743
   pub claim : take a.len a.claim ≡ input.1

@@ -5,7 +5,7 @@ use Rattle.tetra_settings.specs.declared.types.Form.{Form}
 use Rattle.tetra_settings.specs.declared.types.Form.TheVariants.{Plain, Audit}
 use Rattle.tetra_engine.specs.declared.status.Status.TheVariants.{Done}
 use Rattle.tetra_session.specs.Heard.{slot_reading}
-use Rattle.tetra_engine.specs.BelowReading.{reading_bytes}
+use Rattle.tetra_records.specs.Readings.{reading_spelling}
 use Rattle.tetra_engine.specs.Framing.{is_built_slot, framing_stop}
 use Rattle.tetra_engine.specs.Shapes.{Shape}
 use Rattle.tetra_engine.specs.Slots.{soft_values}
@@ -17,7 +17,7 @@ framed Audit slot bytes = slot ++ bytes
 
 -- what is written for a slot behind those before it
 abbrev pub decoded : Settings → List (List ℕ) → List ℕ → List ℕ
-decoded settings before slot = framed settings.form slot (reading_bytes settings.form (slot_reading settings (map soft_values before) (soft_values slot)))
+decoded settings before slot = framed settings.form slot (reading_spelling settings.form (slot_reading settings (map soft_values before) (soft_values slot)))
 
 -- an input is a slot of 510 bytes whose letter is built
 abbrev pub decoding : Settings → Shape (List ℕ)

@@ -86,3 +86,7 @@ abbrev pub IsEnd : Status → Type 0
 IsEnd Done = Unit {0}
 IsEnd (Refused slot count) = Unit {0}
 IsEnd status = ⊥
+
+-- a run over these bytes that meets no fault has one end
+abbrev pub OneEnd : {X : Type 0} → Shape X → Type 0
+OneEnd shape = (max : ℕ) (bytes : List ℕ) (end other : End) → Outcome shape max bytes (λ output. ⊤) end → Outcome shape max bytes (λ output. ⊤) other → end ≡ other

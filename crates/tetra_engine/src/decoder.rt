@@ -1,16 +1,18 @@
 // Decoding as a work over slots.
-ghost use Rattle.std.specs.Prelude.{◌≡◌, ◌<◌, ◌≤◌, length, List, ℕ, []};
+ghost use Rattle.std.specs.Prelude.{◌≡◌, ◌<◌, ◌≤◌, length, List, ℕ, [], All};
 ghost use Rattle.tetra_settings.specs.Validity.{IsValid};
 ghost use Rattle.tetra_session.specs.Built.{IsBuilt};
 ghost use Rattle.tetra_engine.specs.Decoding.{decoding, framed};
-ghost use Rattle.tetra_engine.specs.BelowReading.{reading_bytes};
+ghost use Rattle.tetra_records.specs.Readings.{reading_spelling, IsSmall};
+ghost use Rattle.tetra_settings.specs.Readings.{IsWellFormed};
 
 use crate::slots::read_values;
 use crate::status::Status;
-use crate::temporary::{RecordFault, add_reading};
+use crate::temporary::RecordFault;
 use crate::work::{Stop, Work};
 use arrayvec::ArrayVec;
 use tetra_io::{Filled, Sink, SinkFault, Source, fill, put_all};
+use tetra_records::add_reading;
 use tetra_session::{Receiver, is_built_letter};
 use tetra_settings::{Form, Settings, SlotReading};
 
@@ -103,7 +105,9 @@ fn put_reading(
     form: Form,
     output: &mut ArrayVec<u8, 19_253>,
 )
-    ensures { output.new.items ≡ framed form bytes.now (reading_bytes form reading.now) }
+    requires formed { IsWellFormed reading.now }
+    requires small { All IsSmall reading.now.fields.items }
+    ensures { output.new.items ≡ framed form bytes.now (reading_spelling form reading.now) }
 {
     output.clear();
     if form == Form::Audit {

@@ -3,6 +3,7 @@ ghost use Rattle.tetra_settings.specs.declared.types.Settings.{Settings};
 ghost use Rattle.tetra_engine.specs.Auditing.{auditing};
 ghost use Rattle.tetra_engine.specs.Decoding.{decoding};
 ghost use Rattle.tetra_engine.specs.Encoding.{encoding};
+ghost use Rattle.tetra_engine.specs.Outcomes.{OneEnd};
 ghost use Rattle.tetra_engine.specs.Shapes.{OneCut};
 
 /// A list of bytes has one cut into block records, one into slots, and one into slots with reading records.
@@ -10,4 +11,11 @@ pub fn one_cut()
     ensures encode { (settings : Settings) → OneCut (encoding settings) }
     ensures decode { (settings : Settings) → OneCut (decoding settings) }
     ensures audit { (settings : Settings) → OneCut (auditing settings) }
+{}
+
+/// A run over a list of bytes that meets no fault has one end, however the source cuts the bytes.
+pub fn one_end()
+    ensures encode { (settings : Settings) → OneEnd (encoding settings) }
+    ensures decode { (settings : Settings) → OneEnd (decoding settings) }
+    ensures audit { (settings : Settings) → OneEnd (auditing settings) }
 {}

@@ -20,7 +20,7 @@ pub use auditor::Auditor;
 pub use decoder::Decoder;
 pub use encoder::Encoder;
 pub use engine::run;
-pub use laws::one_cut;
+pub use laws::{one_cut, one_end};
 pub use lines::{exit_code, line};
 pub use rehearsal::rehearse;
 pub use slots::{read_values, write_values};

@@ -1,14 +1,14 @@
 // Types and calls that stand elsewhere.
 ghost use Rattle.std.specs.Prelude.{◌≡◌, ◌≤◌, ◌<◌, ◌+◌, ◌++◌, ◌∷◌, [], List, length, ℤ, IsTrue};
 ghost use Rattle.tetra_settings.specs.Validity.{IsValid};
+ghost use Rattle.tetra_session.specs.Fronts.{IsFront};
 ghost use Rattle.tetra_engine.specs.Below.{RecordGives, RecordRose};
-ghost use Rattle.tetra_engine.specs.BelowReading.{IsFramed, reading_bytes, claim_length, verdict_of};
+ghost use Rattle.tetra_engine.specs.BelowReading.{claim_length, verdict_of};
 
-use arrayvec::ArrayVec;
 use tetra_io::{Source, SourceFault};
 use tetra_rm::Rows;
 use tetra_session::Front;
-use tetra_settings::{Form, Settings, SlotBlocks, SlotReading};
+use tetra_settings::{Settings, SlotBlocks};
 
 #[derive(Clone, Copy, Debug, PartialEq, Eq)]
 pub enum RecordFault {
@@ -62,13 +62,8 @@ pub enum SlotVerdict {
     Field { index: u8, why: FieldWhy },
 }
 
-pub fn add_reading<const N: usize>(reading: &SlotReading, form: Form, out: &mut ArrayVec<u8, N>)
-    requires room { length out.old.items + 18743 ≤ N }
-    ensures { out.new.items ≡ out.old.items ++ reading_bytes form reading.now }
-{}
-
 pub fn claim_len(front: &Front) -> usize
-    requires { IsFramed front.now }
+    requires { IsFront front.now }
     ensures length { result ≡ claim_length front.now }
     ensures most { result ≤ 18743 }
 {
@@ -76,7 +71,7 @@ pub fn claim_len(front: &Front) -> usize
 }
 
 pub fn audit_slot(rows: &Rows, front: &Front, claim: &[u8]) -> SlotVerdict
-    requires framed { IsFramed front.now }
+    requires framed { IsFront front.now }
     requires length { length claim.now ≡ claim_length front.now }
     ensures { result ≡ verdict_of rows.now front.now claim.now }
 {

@@ -1,0 +1,68 @@
+-- There is one end, over any shape that is unambiguous and decided.
+use Rattle.std.proofs.Common.{◌≡◌, ◌⊎◌, ℕ, ◌==◌, List, [], ◌∷◌, ◌++◌, length, refl, ap, sym, ◌∙◌, inl, inr, subst, Bool, true, false, MatchBool}
+use Rattle.tetra_settings.specs.declared.types.Settings.{Settings}
+use Rattle.tetra_settings.specs.declared.blocks.SlotBlocks.{SlotBlocks}
+use Rattle.tetra_settings.specs.Blocks.{Fits}
+use Rattle.tetra_engine.specs.declared.status.End.{End}
+use Rattle.tetra_engine.specs.declared.status.Status.{Status}
+use Rattle.tetra_engine.specs.declared.status.Status.TheVariants.{Done, Refused, Words, TooLong, Input, Read, Write, NotBuilt}
+use Rattle.tetra_engine.specs.Shapes.{Shape, IsUnambiguous, IsDecided}
+use Rattle.tetra_engine.specs.Outcomes.{Closes, OneEnd}
+use Rattle.tetra_engine.specs.Below.{record_bytes, record_why, NoBlocks}
+use Rattle.tetra_engine.specs.Encoding.{encoding, EncodingStops}
+use Rattle.tetra_engine.proofs.Cuts.{one_cut}
+
+one_or_other : (full : Bool) (P Q : Type 0) (s t : Status) (A B : Type 0) → MatchBool full A P → MatchBool full B Q → (A → B → s ≡ t) → (P → Q → s ≡ t) → s ≡ t
+one_or_other true P Q s t A B x y long stop = long x y
+one_or_other false P Q s t A B x y long stop = stop x y
+
+-- the status behind one cut
+one_status : {X : Type 0} (shape : Shape X) → IsDecided shape → (max : ℕ) (xs : List X) (rest : List ℕ) (s t : Status) → Closes shape max xs rest s → Closes shape max xs rest t → s ≡ t
+one_status shape decided max xs [] s t a b = a ∙ sym b
+one_status shape decided max xs (c ∷ rest) s t a b =
+    one_or_other (length xs == max) _ _ s t _ _ a b (λ x y. x ∙ sym y) (decided xs (c ∷ rest) s t)
+
+same_end : (end other : End) → end.status ≡ other.status → end.slots ≡ other.slots → end ≡ other
+same_end end other s n =
+    let made : Status → ℕ → End = λ status slots. record { status = status; slots = slots } in
+    ap (λ status. made status end.slots) s ∙ ap (made other.status) n
+
+pub one_end : {X : Type 0} (shape : Shape X) → IsUnambiguous shape → IsDecided shape → OneEnd shape
+one_end {X} shape one decided max bytes end other a b =
+    let cut = one_cut shape one max bytes a.xs b.xs a.rest b.rest a.cut b.cut in
+    let there = subst (λ xs. Closes shape max xs b.rest other.status) (sym cut.0) b.closes in
+    let here = subst (λ rest. Closes shape max a.xs rest end.status) cut.1 a.closes in
+    same_end end other (one_status shape decided max a.xs b.rest end.status other.status here there) (a.slots ∙ ap (λ xs. length xs) cut.0 ∙ sym b.slots)
+
+-- bytes begin with the record of blocks that fit
+BeginsWithBlocks : Settings → ℕ → List ℕ → Type 0
+BeginsWithBlocks settings n bytes = (blocks : SlotBlocks) × (rest : List ℕ) × Fits settings n blocks × (bytes ≡ record_bytes blocks ++ rest)
+
+-- the two ways in which encoding stops
+two_ways : (settings : Settings) (n : ℕ) (bytes : List ℕ) (status : Status) → EncodingStops settings n bytes status
+    → (NoBlocks settings n bytes × (status ≡ Input n (record_why settings n bytes))) ⊎ (BeginsWithBlocks settings n bytes × (status ≡ NotBuilt))
+unfolding BeginsWithBlocks
+two_ways settings n bytes Done stops = absurd stops
+two_ways settings n bytes (Refused s c) stops = absurd stops
+two_ways settings n bytes (Words i w) stops = absurd stops
+two_ways settings n bytes (Input slot why) stops = inl (stops.1, ap (λ m. Input m why) stops.0 ∙ ap (Input n) stops.2)
+two_ways settings n bytes Read stops = absurd stops
+two_ways settings n bytes Write stops = absurd stops
+two_ways settings n bytes TooLong stops = absurd stops
+two_ways settings n bytes NotBuilt stops = inr (stops, refl)
+
+not_both_ways : (settings : Settings) (n : ℕ) (bytes : List ℕ) → NoBlocks settings n bytes → BeginsWithBlocks settings n bytes → ⊥
+unfolding BeginsWithBlocks
+not_both_ways settings n bytes none (blocks, rest, fits, is) = none blocks rest fits is
+
+decide : (settings : Settings) (n : ℕ) (bytes : List ℕ) (s t : Status)
+    → (NoBlocks settings n bytes × (s ≡ Input n (record_why settings n bytes))) ⊎ (BeginsWithBlocks settings n bytes × (s ≡ NotBuilt))
+    → (NoBlocks settings n bytes × (t ≡ Input n (record_why settings n bytes))) ⊎ (BeginsWithBlocks settings n bytes × (t ≡ NotBuilt)) → s ≡ t
+decide settings n bytes s t (inl a) (inl b) = a.1 ∙ sym b.1
+decide settings n bytes s t (inl a) (inr b) = absurd (not_both_ways settings n bytes a.0 b.0)
+decide settings n bytes s t (inr a) (inl b) = absurd (not_both_ways settings n bytes b.0 a.0)
+decide settings n bytes s t (inr a) (inr b) = a.1 ∙ sym b.1
+
+pub encoding_decided : (settings : Settings) → IsDecided (encoding settings)
+encoding_decided settings before bytes s t a b =
+    decide settings (length before) bytes s t (two_ways settings (length before) bytes s a) (two_ways settings (length before) bytes t b)

@@ -8,20 +8,22 @@ use std::alloc::{AllocError, Global};
 use std::process::Abort;
 use std::test::Fail;
 
-/// So many drawn bits, packed with zeros behind them to the end of a byte.
-fn drawn(alloc: Global, pcg: &mut Pcg32, bytes: usize, spare: u32) -> Result<Vec<u8>, AllocError> {
+/// So many drawn bytes, the last under a mask.
+fn drawn(alloc: Global, pcg: &mut Pcg32, bytes: usize, mask: u8) -> Result<Vec<u8>, AllocError> {
     let mut packed = Vec::new(alloc);
     for _ in 0..bytes {
         packed.push(pcg.next_word().to_be_bytes()[0])?;
     }
     if let Some(last) = packed.last_mut() {
-        *last = *last >> spare << spare;
+        *last &= mask;
     }
     Ok(packed)
 }
 
 fn bit(packed: &[u8], k: usize) -> bool {
-    packed.get(k / 8).is_some_and(|byte| byte >> (7 - k % 8) & 1 == 1)
+    packed
+        .get(k / 8)
+        .is_some_and(|byte| byte >> (7 - k % 8) & 1 == 1)
 }
 
 fn turn(file: &mut [u8], place: usize, bits: u8) {
@@ -52,13 +54,16 @@ fn sent_as_by_sums(rt: HostRuntime) -> Result<(), Fail> {
     let rows = [
         ("encode dir=ul ts2=d72", [0, 0, 0]),
         ("encode dir=ul ts2=d72 mcc=512", [512, 0, 0]),
-        ("encode dir=ul ts2=d72 mcc=901 mnc=16383 cc=1", [901, 16_383, 1]),
+        (
+            "encode dir=ul ts2=d72 mcc=901 mnc=16383 cc=1",
+            [901, 16_383, 1],
+        ),
         ("encode cc=62 dir=ul mnc=4660 ts2=d72", [0, 4_660, 62]),
     ];
     for (words, [mcc, mnc, cc]) in rows {
         let scrambling = code::scrambling(&code::colour(mcc, mnc, cc));
-        let full = drawn(rt.alloc(), &mut pcg, 34, 4)?;
-        let load = drawn(rt.alloc(), &mut pcg, 54, 0)?;
+        let full = drawn(rt.alloc(), &mut pcg, 34, 0xF0)?;
+        let load = drawn(rt.alloc(), &mut pcg, 54, 0xFF)?;
         let mut input = Vec::from_slice(rt.alloc(), b"F")?;
         input.extend_from_slice(&full)?;
         input.push(b'T')?;
@@ -77,7 +82,7 @@ fn sent_as_by_sums(rt: HostRuntime) -> Result<(), Fail> {
 /// A slot of drawn bits, of which each value has a drawn size and one in twelve the wrong sign.
 fn received(alloc: Global, scrambling: &[bool; 464]) -> Result<[u8; 510], AllocError> {
     let mut pcg = Pcg32::new(2, 1);
-    let mut slot = signalling(&drawn(alloc, &mut pcg, 34, 4)?, scrambling);
+    let mut slot = signalling(&drawn(alloc, &mut pcg, 34, 0xF0)?, scrambling);
     for k in 0..510usize {
         let [_, _, sign, size] = pcg.next_word().to_be_bytes();
         let size = size % 128;
@@ -102,7 +107,12 @@ fn is_turned(place: usize) -> bool {
 }
 
 /// Asserts that an audit says what the rules say.
-fn agrees(rt: &(impl Abort + AllocGlobal), file: &[u8], scrambling: &[bool; 464], at: usize) -> Result<(), Fail> {
+fn agrees(
+    rt: &(impl Abort + AllocGlobal),
+    file: &[u8],
+    scrambling: &[bool; 464],
+    at: usize,
+) -> Result<(), Fail> {
     let line = rules::line(rt.alloc(), file, scrambling)?;
     let end = if line.as_str() == "0 ok\n" {
         "0 1 "
@@ -111,7 +121,11 @@ fn agrees(rt: &(impl Abort + AllocGlobal), file: &[u8], scrambling: &[bool; 464]
     };
     let words = "audit dir=ul mcc=901 mnc=16383 cc=1";
     let ran = run_over(rt.alloc(), words, file, SURE, 128)?;
-    assert_eq!(rt; ran.output.as_slice(), line.as_bytes(), "with byte {at} turned");
+    assert_eq!(rt;
+        ran.output.as_slice(),
+        line.as_bytes(),
+        "with byte {at} turned"
+    );
     assert_eq!(rt; ran.end.as_str(), end, "with byte {at} turned");
     Ok(())
 }

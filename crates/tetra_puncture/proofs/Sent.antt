@@ -1,15 +1,13 @@
 -- A cost to go is at most 127 for each sent bit, since places that are not sent cost nothing.
 use Prim.Native.Nat.{zero, suc}
-use Rattle.std.proofs.Common.{◌≡◌, ◌≢◌, ℕ, ◌+◌, ◌-◌, ◌*◌, ◌<◌, ◌≤◌, Bool, true, false, List, [], ◌∷◌, length, ℤ, pos, negsuc, replicate, arith, refl, sym, ◌∙◌, ap}
-use Rattle.std.proofs.lemmas.List.{length-replicate}
+use Rattle.std.proofs.Common.{◌≡◌, ℕ, ◌+◌, ◌-◌, ◌*◌, ◌<◌, ◌≤◌, Bool, true, false, List, [], ◌∷◌, length, ℤ, pos, negsuc, arith, refl, ◌∙◌, ap}
 use Rattle.tetra_bits.specs.Cost.{cost}
 use Rattle.tetra_bits.specs.Soft.{IsSoft, AllSoft, value_at}
 use Rattle.tetra_bits.specs.Sums.{sum_below}
-use Rattle.tetra_bits.proofs.Signs.{sum_same}
 use Rattle.tetra_mother.specs.Mother.{edge, next_state}
 use Rattle.tetra_puncture.specs.Plan.{CodePlan, PlacesRise, PlacesLie}
 use Rattle.tetra_puncture.specs.Spread.{spread_value, spread_values}
-use Rattle.tetra_puncture.specs.Trellis.{output_cost, step_cost, cost_from, IsContinuation, IsCostToGo}
+use Rattle.tetra_puncture.specs.Trellis.{output_cost, step_cost, cost_from, IsCostToGo}
 use Rattle.tetra_puncture.proofs.Bounds.{cost_small, soft_at}
 use Rattle.tetra_puncture.proofs.Paths.{sum_parts, sum_placed}
 use Rattle.tetra_puncture.proofs.Values.{value_sent, value_not_sent, value_at_spread}

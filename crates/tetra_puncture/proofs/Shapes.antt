@@ -1,7 +1,6 @@
 -- The sizes and the bounds of the potentials of received values, and of their first-least message.
-use Rattle.std.proofs.Common.{◌≡◌, ℕ, ◌+◌, ◌-◌, ◌*◌, ◌<◌, ◌≤◌, Bool, List, [], length, get_or, arith, ap, ◌∙◌}
+use Rattle.std.proofs.Common.{◌≡◌, ℕ, ◌+◌, ◌-◌, ◌*◌, ◌<◌, ◌≤◌, List, [], length, get_or, arith, ap, ◌∙◌}
 use Rattle.std.specs.Prelude.{ℤ}
-use Rattle.tetra_bits.specs.Least.{FirstLeast}
 use Rattle.tetra_bits.specs.Numbered.{length-numbered, get_or-numbered}
 use Rattle.tetra_bits.specs.Readings.{entry}
 use Rattle.tetra_bits.specs.Soft.{AllSoft}

@@ -1,17 +1,17 @@
 -- The cost to go as a function, and tables of it.
 use Prim.Native.Nat.{zero, suc}
-use Rattle.std.proofs.Common.{◌≡◌, ℕ, ◌+◌, ◌-◌, ◌<◌, ◌≤◌, ◌⊎◌, inl, inr, min, Bool, true, false, List, [], ◌∷◌, ◌++◌, length, get_or, replicate, take, arith, refl, ap, sym, ◌∙◌, length-append}
+use Rattle.std.proofs.Common.{◌≡◌, ℕ, ◌+◌, ◌-◌, ◌≤◌, ◌⊎◌, inl, inr, min, Bool, false, List, [], ◌++◌, length, get_or, replicate, take, arith, refl, ap, sym, ◌∙◌, length-append}
 use Rattle.std.specs.Prelude.{ℤ}
 use Rattle.std.proofs.lemmas.Bool.{cases_lt}
 use Rattle.std.proofs.lemmas.List.{ext_get_or, get_or_append_left, get_or-append_right, length-replicate, length-take-le, get_or-take}
 use Rattle.tetra_bits.specs.Least.{best, Ranks}
-use Rattle.tetra_bits.specs.Numbered.{numbered, is_numbered, length-numbered}
+use Rattle.tetra_bits.specs.Numbered.{is_numbered}
 use Rattle.tetra_bits.specs.Order.{bit_at}
 use Rattle.tetra_bits.specs.Readings.{entry}
 use Rattle.tetra_bits.proofs.Best.{best_is_first}
 use Rattle.tetra_puncture.specs.Plan.{CodePlan}
 use Rattle.tetra_puncture.specs.Spread.{spread_values}
-use Rattle.tetra_puncture.specs.Trellis.{cost_from, IsContinuation, IsCostToGo, AllCostsToGo}
+use Rattle.tetra_puncture.specs.Trellis.{cost_from, IsContinuation, AllCostsToGo}
 use Rattle.tetra_puncture.specs.ToGo.{ended, rate_to_go, cost_to_go, potential, potential_row, potentials_of, CostToGoIsFound}
 use Rattle.tetra_puncture.specs.Certified.{CostToGoIsOne}
 

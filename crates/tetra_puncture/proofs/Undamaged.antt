@@ -1,5 +1,5 @@
 -- Values that have the signs of a sent word are read as its message.
-use Rattle.std.proofs.Common.{◌≡◌, ℕ, ◌+◌, ◌-◌, ◌<◌, ◌⊎◌, inl, inr, Bool, List, length, arith, sym, ◌∙◌}
+use Rattle.std.proofs.Common.{◌≡◌, ◌-◌, ◌<◌, ◌⊎◌, inl, inr, Bool, List, length, arith, sym, ◌∙◌}
 use Rattle.std.specs.Prelude.{ℤ}
 use Rattle.tetra_bits.specs.Cost.{metric}
 use Rattle.tetra_bits.specs.Numbered.{length-numbered}
@@ -25,6 +25,6 @@ undamaged_is_best p r m differ message u =
   where
     others : (other : List Bool) → length other ≡ p.steps - 4 → (m ≡ other) ⊎ (0 < metric r (word p other))
     others other l = elim (others_cost (word p m) (word p other) r u (length-word p other ∙ sym (length-word p m))) [
-        | inl same ↦ inl (sym (differ other m (omega arith) message same))
-        | inr costs ↦ inr costs
-      ]
+      | inl same ↦ inl (sym (differ other m (omega arith) message same))
+      | inr costs ↦ inr costs
+    ]

@@ -1,10 +1,10 @@
 -- The cost to go as plain data, and the table of all of them: the potentials of a received block.
-use Rattle.std.specs.Prelude.{◌≡◌, ℕ, ◌+◌, ◌-◌, ◌<◌, ◌≤◌, min, Bool, false, List, ◌++◌, length, replicate, ℤ}
+use Rattle.std.specs.Prelude.{ℕ, ◌+◌, ◌-◌, ◌≤◌, min, Bool, false, List, ◌++◌, replicate, ℤ}
 use Rattle.tetra_bits.specs.Least.{best}
 use Rattle.tetra_bits.specs.Numbered.{numbered}
 use Rattle.tetra_puncture.specs.Plan.{CodePlan}
 use Rattle.tetra_puncture.specs.Spread.{spread_values}
-use Rattle.tetra_puncture.specs.Trellis.{cost_from, IsCostToGo, AllCostsToGo}
+use Rattle.tetra_puncture.specs.Trellis.{cost_from, IsCostToGo}
 
 -- free bits for the steps from t on, and zeros for those of the last four steps that are left
 unfoldable pub ended : CodePlan → ℕ → List Bool → List Bool

@@ -6,10 +6,21 @@ use tetra_puncture::{TwoThirds, keep};
 
 #[test]
 fn values_of_bytes(rt: HostRuntime) {
-    for (byte, value) in [(0x80, -127), (0x81, -127), (0x7F, 127), (0xFF, -1), (0x00, 0)] {
+    for (byte, value) in [
+        (0x80, -127),
+        (0x81, -127),
+        (0x7F, 127),
+        (0xFF, -1),
+        (0x00, 0),
+    ] {
         assert_eq!(rt; soft_of(byte), value, "of {byte}");
     }
-    for (value, bit, expected) in [(-127, false, 127), (-127, true, 0), (0, true, 0), (5, true, 5)] {
+    for (value, bit, expected) in [
+        (-127, false, 127),
+        (-127, true, 0),
+        (0, true, 0),
+        (5, true, 5),
+    ] {
         assert_eq!(rt; cost(value, bit), expected, "of {bit} at {value}");
     }
 }

@@ -21,7 +21,9 @@ fn drawn(alloc: Global, pcg: &mut Pcg32, bytes: usize, spare: u32) -> Result<Vec
 }
 
 fn bit(packed: &[u8], k: usize) -> bool {
-    packed.get(k / 8).is_some_and(|byte| byte >> (7 - k % 8) & 1 == 1)
+    packed
+        .get(k / 8)
+        .is_some_and(|byte| byte >> (7 - k % 8) & 1 == 1)
 }
 
 fn turn(file: &mut [u8], place: usize, bits: u8) {
@@ -52,7 +54,10 @@ fn sent_as_by_sums(rt: HostRuntime) -> Result<(), Fail> {
     let rows = [
         ("encode dir=ul ts2=d72", [0, 0, 0]),
         ("encode dir=ul ts2=d72 mcc=512", [512, 0, 0]),
-        ("encode dir=ul ts2=d72 mcc=901 mnc=16383 cc=1", [901, 16_383, 1]),
+        (
+            "encode dir=ul ts2=d72 mcc=901 mnc=16383 cc=1",
+            [901, 16_383, 1],
+        ),
         ("encode cc=62 dir=ul mnc=4660 ts2=d72", [0, 4_660, 62]),
     ];
     for (words, [mcc, mnc, cc]) in rows {
@@ -102,7 +107,12 @@ fn is_turned(place: usize) -> bool {
 }
 
 /// Asserts that an audit says what the rules say.
-fn agrees(rt: &(impl Abort + AllocGlobal), file: &[u8], scrambling: &[bool; 464], at: usize) -> Result<(), Fail> {
+fn agrees(
+    rt: &(impl Abort + AllocGlobal),
+    file: &[u8],
+    scrambling: &[bool; 464],
+    at: usize,
+) -> Result<(), Fail> {
     let line = rules::line(rt.alloc(), file, scrambling)?;
     let end = if line.as_str() == "0 ok\n" {
         "0 1 "
@@ -111,7 +121,11 @@ fn agrees(rt: &(impl Abort + AllocGlobal), file: &[u8], scrambling: &[bool; 464]
     };
     let words = "audit dir=ul mcc=901 mnc=16383 cc=1";
     let ran = run_over(rt.alloc(), words, file, SURE, 128)?;
-    assert_eq!(rt; ran.output.as_slice(), line.as_bytes(), "with byte {at} turned");
+    assert_eq!(rt;
+        ran.output.as_slice(),
+        line.as_bytes(),
+        "with byte {at} turned"
+    );
     assert_eq!(rt; ran.end.as_str(), end, "with byte {at} turned");
     Ok(())
 }

@@ -124,12 +124,23 @@ const WRITES: [Faults; 5] = [
 ];
 
 /// Asserts what a run wrote and how it ended.
-fn stands(rt: &(impl Abort + AllocGlobal), faults: &Faults, ends: Ends, taken: usize, end: &str) -> Result<(), Fail> {
+fn stands(
+    rt: &(impl Abort + AllocGlobal),
+    faults: &Faults,
+    ends: Ends,
+    taken: usize,
+    end: &str,
+) -> Result<(), Fail> {
     let input = bytes(rt.alloc(), faults.input)?;
     let output = bytes(rt.alloc(), faults.output)?;
     let ran = run_over(rt.alloc(), faults.words, &input, ends, 20_000)?;
     assert_eq!(rt; ran.end.as_str(), end, "{}", faults.words);
-    assert_eq!(rt; Some(ran.output.as_slice()), output.get(..taken), "{}", faults.words);
+    assert_eq!(rt;
+        Some(ran.output.as_slice()),
+        output.get(..taken),
+        "{}",
+        faults.words
+    );
     Ok(())
 }
 
@@ -172,11 +183,46 @@ fn each_write_fails(rt: HostRuntime) -> Result<(), Fail> {
 #[test]
 fn flush_fails_behind_another_end(rt: HostRuntime) -> Result<(), Fail> {
     let rows = [
-        ("encode dir=ul", "46 34*00", 36, 2, 510, "5 1 write failed after 1 slots"),
-        ("encode dir=ul max=1", "46 34*00 46", 0, 2, 510, "5 1 write failed after 1 slots"),
-        ("encode dir=ul", "46 34*00 54", 0, 2, 510, "5 1 write failed after 1 slots"),
-        ("encode dir=ul ts1=d72", "51 86*00", 0, 1, 0, "5 0 write failed after 0 slots"),
-        ("decode dir=ul", "509*00", 0, 1, 0, "5 0 write failed after 0 slots"),
+        (
+            "encode dir=ul",
+            "46 34*00",
+            36,
+            2,
+            510,
+            "5 1 write failed after 1 slots",
+        ),
+        (
+            "encode dir=ul max=1",
+            "46 34*00 46",
+            0,
+            2,
+            510,
+            "5 1 write failed after 1 slots",
+        ),
+        (
+            "encode dir=ul",
+            "46 34*00 54",
+            0,
+            2,
+            510,
+            "5 1 write failed after 1 slots",
+        ),
+        (
+            "encode dir=ul ts1=d72",
+            "51 86*00",
+            0,
+            1,
+            0,
+            "5 0 write failed after 0 slots",
+        ),
+        (
+            "decode dir=ul",
+            "509*00",
+            0,
+            1,
+            0,
+            "5 0 write failed after 0 slots",
+        ),
     ];
     for (words, input, read_fails, write_fails, taken, end) in rows {
         let ends = Ends {
@@ -213,7 +259,11 @@ fn parts_of_an_input(rt: HostRuntime) -> Result<(), Fail> {
         let whole = bytes(rt.alloc(), whole)?;
         for size in 1..whole.len() {
             let ran = run_over(rt.alloc(), words, &whole[..size], SURE, 510)?;
-            assert_eq!(rt; ran.end.as_str(), "3 0 input: slot 0: truncated", "{words} of {size} bytes");
+            assert_eq!(rt;
+                ran.end.as_str(),
+                "3 0 input: slot 0: truncated",
+                "{words} of {size} bytes"
+            );
             assert!(rt; ran.output.is_empty(), "{words} of {size} bytes");
         }
     }

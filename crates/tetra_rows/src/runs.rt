@@ -41,7 +41,13 @@ pub struct Outcome {
 }
 
 /// A run over ends in memory, the sink with room for so many bytes.
-pub fn run_over(alloc: Global, words: &str, input: &[u8], ends: Ends, room: usize) -> Result<Outcome, Fail> {
+pub fn run_over(
+    alloc: Global,
+    words: &str,
+    input: &[u8],
+    ends: Ends,
+    room: usize,
+) -> Result<Outcome, Fail> {
     let mut all = Vec::new(alloc);
     for word in words.split_whitespace() {
         all.push(String::from_str(alloc, word)?)?;
@@ -67,6 +73,11 @@ pub fn holds(rt: &(impl Abort + AllocGlobal), row: &Row, read_piece: usize) -> R
     let ends = Ends { read_piece, ..SURE };
     let ran = run_over(rt.alloc(), row.words, &input, ends, 20_000)?;
     assert_eq!(rt; ran.end.as_str(), row.end, "{} of {}", row.words, row.input);
-    assert!(rt; ran.output == output, "output of {} of {}", row.words, row.input);
+    assert!(rt;
+        ran.output == output,
+        "output of {} of {}",
+        row.words,
+        row.input
+    );
     Ok(())
 }

@@ -27,7 +27,10 @@ const ENDS: [(&str, &str); 37] = [
     ("encode at=4320", "2 0 word 1: out of range"),
     ("encode max=0", "2 0 word 1: out of range"),
     ("encode max=16777217", "2 0 word 1: out of range"),
-    ("encode cc=1234567890123456789012345678901234567890", "2 0 word 1: out of range"),
+    (
+        "encode cc=1234567890123456789012345678901234567890",
+        "2 0 word 1: out of range",
+    ),
     ("gen draw=18446744073709551616", "2 0 word 1: out of range"),
     ("gen slots=1000001", "2 0 word 1: out of range"),
     ("trial damage=511", "2 0 word 1: out of range"),
@@ -40,7 +43,10 @@ const ENDS: [(&str, &str); 37] = [
     ("encode", "8 0 not built"),
     ("decode dir=ul ts1=cb", "8 0 not built"),
     ("encode ts4=d24n8 dir=ul", "8 0 not built"),
-    ("gen dir=ul draw=18446744073709551615 slots=1000000", "8 0 not built"),
+    (
+        "gen dir=ul draw=18446744073709551615 slots=1000000",
+        "8 0 not built",
+    ),
 ];
 
 #[test]

@@ -9,7 +9,8 @@ use Rattle.tetra_bits.proofs.Signs.{sum_same}
 use Rattle.tetra_mother.specs.Mother.{edge}
 use Rattle.tetra_puncture.specs.Plan.{CodePlan}
 use Rattle.tetra_puncture.specs.Trellis.{output_cost, step_cost}
-use Rattle.tetra_trellis.specs.Labels.{number_of, branch_output, branch_label, AreLabels, IsStep, AreCosts}
+use Rattle.tetra_trellis.specs.Labels.{number_of, branch_output, branch_label, label_at, HasLabels, IsStep, AreCosts}
+use Rattle.tetra_trellis.specs.declared.labels.Labels.{Labels}
 
 -- the outputs of a branch, and false past the last
 pub outputs_are : (taps : ℕ → ℕ → Bool) (outs s : ℕ) (b : Bool) (all : List Bool) →
@@ -47,9 +48,9 @@ label_small taps outs s b =
       number_small (branch_output taps outs s b 3),
     )
 
-pub labels_small : (taps : ℕ → ℕ → Bool) (outs : ℕ) (b : Bool) (labels : List ℕ) → AreLabels taps outs b labels → (s : ℕ) → s < 16 → get_or labels s 0 < 16
-unfolding AreLabels
-labels_small taps outs b labels are s h = omega (arith, are s h, label_small taps outs s b)
+pub labels_small : (taps : ℕ → ℕ → Bool) (outs : ℕ) (labels : Labels) → HasLabels taps outs labels → (s : ℕ) (b : Bool) → s < 16 → label_at labels s b < 16
+unfolding HasLabels
+labels_small taps outs labels are s b h = omega (arith, are s b h, label_small taps outs s b)
 
 -- the costs of all labels from those of pairs
 pub pairs_are_costs : (values : List ℤ) (first second costs : List ℕ) →
@@ -110,16 +111,16 @@ sum_past n (suc m) f h none = elim (cases_lt m n) [
 ]
 
 -- the cost of a label is that of the step
-pub cost_of_label : (p : CodePlan) (wide values : List ℤ) (costs labels : List ℕ) (t s : ℕ) (b : Bool) → p.outs ≤ 4 →
-    IsStep p.outs wide t values → AreCosts values costs → AreLabels p.taps p.outs b labels → s < 16 →
-    get_or costs (get_or labels s 0) 0 ≡ step_cost p wide t s b
-unfolding AreCosts AreLabels branch_label step_cost padded_cost sum_below
+pub cost_of_label : (p : CodePlan) (wide values : List ℤ) (costs : List ℕ) (labels : Labels) (t s : ℕ) (b : Bool) → p.outs ≤ 4 →
+    IsStep p.outs wide t values → AreCosts values costs → HasLabels p.taps p.outs labels → s < 16 →
+    get_or costs (label_at labels s b) 0 ≡ step_cost p wide t s b
+unfolding AreCosts HasLabels branch_label step_cost padded_cost sum_below
 cost_of_label p wide values costs labels t s b few step are labelled small =
     let four : sum_below 4 (padded_cost p.taps p.outs values s b) ≡ sum_below p.outs (padded_cost p.taps p.outs values s b) =
     sum_past p.outs 4 (padded_cost p.taps p.outs values s b) few (padded_past p.taps p.outs wide values t s b step) in
     let same : sum_below p.outs (padded_cost p.taps p.outs values s b) ≡ sum_below p.outs (output_cost p wide t s b) =
     sum_same p.outs (padded_cost p.taps p.outs values s b) (output_cost p wide t s b) (padded_within p wide values t s b step) in
-    ap (λ k. get_or costs k 0) (labelled s small)
+    ap (λ k. get_or costs k 0) (labelled s b small)
     ∙ are (branch_output p.taps p.outs s b 0) (branch_output p.taps p.outs s b 1) (branch_output p.taps p.outs s b 2) (branch_output p.taps p.outs s b 3)
     ∙ omega (arith, four, same)
 

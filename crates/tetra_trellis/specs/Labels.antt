@@ -22,9 +22,14 @@ branch_label taps outs s b =
 unfoldable pub AreLabels : (ℕ → ℕ → Bool) → ℕ → Bool → List ℕ → Type 0
 AreLabels taps outs b labels = (s : ℕ) → s < 16 → slice_index labels s ≡ branch_label taps outs s b
 
-pub record HasLabels (taps : ℕ → ℕ → Bool) (outs : ℕ) (labels : Labels) : Type 0 where
-  pub zero : AreLabels taps outs false labels.zero
-  pub one : AreLabels taps outs true labels.one
+-- the label that is kept for the branch from state s with bit b
+unfoldable pub label_at : Labels → ℕ → Bool → ℕ
+label_at labels s true = slice_index labels.one s
+label_at labels s false = slice_index labels.zero s
+
+-- the labels of all branches
+unfoldable pub HasLabels : (ℕ → ℕ → Bool) → ℕ → Labels → Type 0
+HasLabels taps outs labels = (s : ℕ) (b : Bool) → s < 16 → label_at labels s b ≡ branch_label taps outs s b
 
 -- the values of step t, and zeros past the last output
 pub record IsStep (outs : ℕ) (wide : List ℤ) (t : ℕ) (values : List ℤ) : Type 0 where

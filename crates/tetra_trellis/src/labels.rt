@@ -1,15 +1,15 @@
 // The labels of the branches of a mother code.
 ghost use Rattle.std.specs.Prelude.{◌≡◌, ◌<◌, ◌≤◌, ◌+◌, ℕ, Bool, false, true, length, slice_index};
 ghost use Rattle.tetra_bits.specs.Order.{bit_at};
-ghost use Rattle.tetra_trellis.specs.Labels.{number_of, HasLabels, AreLabels};
+ghost use Rattle.tetra_trellis.specs.Labels.{number_of, label_at, HasLabels, AreLabels};
 
 use tetra_mother::{Mother, outs};
 
 /// The labels of the 32 branches of a mother code, by the state that they leave, for bit 0 and for bit 1.
 #[derive(Drop)]
 pub struct Labels {
-    pub zero: [usize; 16],
-    pub one: [usize; 16],
+    zero: [usize; 16],
+    one: [usize; 16],
 }
 
 impl Labels {
@@ -20,6 +20,20 @@ impl Labels {
         Labels {
             zero: labels_of::<M>(false),
             one: labels_of::<M>(true),
+        }
+    }
+
+    /// The label of the branch from `state` with `bit`.
+    #[tactic(auto, unfolding(crate::specs::Labels::label_at))]
+    pub fn at(&self, state: u8, bit: bool) -> usize
+        requires { state < 16 }
+        ensures { result ≡ label_at self.now state bit }
+    {
+        let state = usize::from(state);
+        if bit {
+            self.one[state]
+        } else {
+            self.zero[state]
         }
     }
 }

@@ -3,7 +3,7 @@ ghost use Rattle.std.specs.Prelude.{◌≡◌, ◌<◌, ◌≤◌, ◌+◌, ◌*
 ghost use Rattle.tetra_bits.specs.Readings.{entry};
 ghost use Rattle.tetra_bits.specs.Soft.{AllSoft};
 ghost use Rattle.tetra_puncture.specs.Decoding.{IsBackward, least_branch};
-ghost use Rattle.tetra_trellis.specs.Labels.{HasLabels};
+ghost use Rattle.tetra_trellis.specs.Labels.{label_at, HasLabels};
 ghost use Rattle.tetra_trellis.specs.Rows.{by_label};
 
 use crate::costs::{label_costs, step_values};
@@ -14,43 +14,42 @@ use tetra_puncture::Plan;
 
 /// The cost of a branch from `state`, and the entry of the next row to which it leads.
 #[tactic(auto, unfolding(crate::specs::Rows::by_label))]
-fn over(costs: &[u32; 16], labels: &[usize; 16], after: &[u32; 16], state: u8, bit: bool) -> u32
+fn over(costs: &[u32; 16], labels: &Labels, after: &[u32; 16], state: u8, bit: bool) -> u32
     requires state { state < 16 }
-    requires labels { (s : ℕ) → s < 16 → slice_index labels.now s < 16 }
+    requires labels { (s : ℕ) (b : Bool) → s < 16 → label_at labels.now s b < 16 }
     requires small { (w : ℕ) → w < 16 → slice_index costs.now w ≤ 508 }
     requires room { (s : ℕ) → s < 16 → slice_index after.now s ≤ 2 ^ 31 }
     ensures { result ≡ by_label costs.now labels.now after.now state bit }
 {
     let rest = after[usize::from(next(state, bit))];
-    costs[labels[usize::from(state)]] + rest
+    costs[labels.at(state, bit)] + rest
 }
 
 /// The row of the ways by bit 0.
 fn ways_by_zero(costs: &[u32; 16], labels: &Labels, after: &[u32; 16]) -> [u32; 16]
-    requires labels { (s : ℕ) → s < 16 → slice_index labels.now.zero s < 16 }
+    requires labels { (s : ℕ) (b : Bool) → s < 16 → label_at labels.now s b < 16 }
     requires small { (w : ℕ) → w < 16 → slice_index costs.now w ≤ 508 }
     requires room { (s : ℕ) → s < 16 → slice_index after.now s ≤ 2 ^ 31 }
-    ensures { (s : ℕ) → s < 16 → slice_index result s ≡ by_label costs.now labels.now.zero after.now s false }
+    ensures { (s : ℕ) → s < 16 → slice_index result s ≡ by_label costs.now labels.now after.now s false }
 {
     let mut row = [0; 16];
     for state in 0..16u8 {
-        row[usize::from(state)] = over(costs, &labels.zero, after, state, false);
+        row[usize::from(state)] = over(costs, labels, after, state, false);
     }
     row
 }
 
 /// The row of the lesser ways by both bits.
 fn lesser_ways(costs: &[u32; 16], labels: &Labels, after: &[u32; 16]) -> [u32; 16]
-    requires zero { (s : ℕ) → s < 16 → slice_index labels.now.zero s < 16 }
-    requires one { (s : ℕ) → s < 16 → slice_index labels.now.one s < 16 }
+    requires labels { (s : ℕ) (b : Bool) → s < 16 → label_at labels.now s b < 16 }
     requires small { (w : ℕ) → w < 16 → slice_index costs.now w ≤ 508 }
     requires room { (s : ℕ) → s < 16 → slice_index after.now s ≤ 2 ^ 31 }
-    ensures { (s : ℕ) → s < 16 → slice_index result s ≡ min (by_label costs.now labels.now.zero after.now s false) (by_label costs.now labels.now.one after.now s true) }
+    ensures { (s : ℕ) → s < 16 → slice_index result s ≡ min (by_label costs.now labels.now after.now s false) (by_label costs.now labels.now after.now s true) }
 {
     let mut row = [0; 16];
     for state in 0..16u8 {
-        let zero = over(costs, &labels.zero, after, state, false);
-        row[usize::from(state)] = zero.min(over(costs, &labels.one, after, state, true));
+        let zero = over(costs, labels, after, state, false);
+        row[usize::from(state)] = zero.min(over(costs, labels, after, state, true));
     }
     row
 }

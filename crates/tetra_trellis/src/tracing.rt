@@ -12,13 +12,14 @@ use tetra_bits::{Bits, Potentials, Wide};
 use tetra_mother::{Mother, next};
 use tetra_puncture::Plan;
 
-/// The cost of bit 0 at step `t` from `state`, and the potential to which it leads.
-fn over_zero<P: Plan>(
+/// The cost of `bit` at step `t` from `state`, and the potential to which it leads.
+fn over<P: Plan>(
     wide: &Wide,
     labels: &Labels,
     potentials: &Potentials,
     t: usize,
     state: u8,
+    bit: bool,
 ) -> u32
     requires sound { P.IsSound }
     requires size { length wide.now ≡ P.plan.outs * P.plan.steps }
@@ -27,11 +28,11 @@ fn over_zero<P: Plan>(
     requires small { (t s : ℕ) → t ≤ P.plan.steps → s < 16 → entry potentials.now t s ≤ 2 ^ 31 }
     requires step { t < P.plan.steps }
     requires state { state < 16 }
-    ensures { result ≡ over_branch P.plan wide.now potentials.now t state false }
+    ensures { result ≡ over_branch P.plan wide.now potentials.now t state bit }
 {
     let costs = label_costs(step_values::<P::Code>(wide, t));
-    let rest = potentials.at(t + 1, usize::from(next(state, false)));
-    costs[labels.zero[usize::from(state)]] + rest
+    let rest = potentials.at(t + 1, usize::from(next(state, bit)));
+    costs[labels.at(state, bit)] + rest
 }
 
 /// Follows the potentials from state 0 on: a bit is 0 where bit 0 reaches the potential.
@@ -47,7 +48,7 @@ pub fn trace<P: Plan>(wide: &Wide, labels: &Labels, potentials: &Potentials, mes
     message.clear();
     let mut state = 0;
     for t in 0..P::STEPS - 4 {
-        let zero = over_zero::<P>(wide, labels, potentials, t, state);
+        let zero = over::<P>(wide, labels, potentials, t, state, false);
         let bit = potentials.at(t, usize::from(state)) != zero;
         message.push(bit);
         state = next(state, bit);

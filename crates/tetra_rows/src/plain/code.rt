@@ -13,6 +13,7 @@ const GENERATORS: [[bool; 5]; 4] = [
 ];
 
 const TAIL: &[u8; 4] = b"1100";
+
 pub const TRAINING: &[u8; 22] = b"1101000011101001110100";
 
 /// The country code, the network code and the colour code, 30 bits, each most significant bit first.

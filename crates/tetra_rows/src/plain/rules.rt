@@ -104,7 +104,10 @@ impl Judged<'_> {
         if step == 288 {
             return if entry == 0 { None } else { Some("end") };
         }
-        let (zero, one) = (self.branch(step, state, false), self.branch(step, state, true));
+        let (zero, one) = (
+            self.branch(step, state, false),
+            self.branch(step, state, true),
+        );
         let (bit, is_passed) = (self.message[step], self.is_passed(step, state));
         if entry > zero {
             Some("edge 0")

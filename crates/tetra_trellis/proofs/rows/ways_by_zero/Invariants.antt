@@ -5,5 +5,5 @@ use Rattle.tetra_trellis.proofs.rows.ways_by_zero.Given as goal
 abbrev pub invariant-loop-state : goal.invariant-loop-state
 invariant-loop-state l = record {
   long : length l.row ≡ 16;
-  made : (s : ℕ) → s < l.state → get_or l.row s 0 ≡ by_label l.costs l.labels.zero l.after s false;
+  made : (s : ℕ) → s < l.state → get_or l.row s 0 ≡ by_label l.costs l.labels l.after s false;
 }

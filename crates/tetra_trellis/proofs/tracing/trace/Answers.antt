@@ -10,7 +10,7 @@ loop-t-init g c = rw c.clear.ensures (trace_start g.P.Plan.plan c.args.wide.now 
 pub loop-t-preserved : goal.loop-t-preserved
 loop-t-preserved g c =
     let p = g.P.Plan.plan in
-    let chosen : not (eqb c.at.result c.over_zero-zero.result)
+    let chosen : not (eqb c.at.result c.over-zero.result)
     ≡ not (eqb (entry c.args.potentials.now c.loop-t.t c.loop-t.state) (over_branch p c.args.wide.now c.args.potentials.now c.loop-t.t c.loop-t.state false)) =
-    rw (c.at.ensures, c.from.ensures, c.over_zero-zero.ensures) refl in
+    rw (c.at.ensures, c.from.ensures, c.over-zero.ensures) refl in
     rw (c.push.ensures.list, c.next-state.ensures.value) (trace_step p c.args.wide.now c.args.potentials.now c.loop-t.message c.loop-t.state c.loop-t.t _ c.loop-t.invariant chosen)

@@ -1,12 +1,12 @@
 -- The fields of a slot: their sizes, and how great their numbers are.
 use Prim.Native.Nat.{zero, suc}
-use Rattle.std.proofs.Common.{ℕ, ℤ, ◌≡◌, ◌+◌, ◌-◌, ◌*◌, ◌≤◌, inl, inr, Bool, true, false, IsTrue, cond, List, [], ◌∷◌, length, map, get_or, Some, arith, refl, ◌∙◌}
+use Rattle.std.proofs.Common.{ℕ, ℤ, ◌≡◌, ◌+◌, ◌*◌, ◌≤◌, inl, inr, Bool, true, false, IsTrue, cond, List, [], ◌∷◌, length, map, get_or, Some, arith, refl, ◌∙◌}
 use Rattle.std.proofs.lemmas.Bool.{cases_lt}
 use Rattle.std.proofs.lemmas.List.{get_or_past}
 use Rattle.std.specs.Prelude.{All}
 use Rattle.arrayvec.specs.ArrayVec.{ArrayVec}
 use Rattle.tetra_bits.specs.Cost.{metric}
-use Rattle.tetra_bits.specs.Numbered.{numbered, get_or-numbered, length-numbered}
+use Rattle.tetra_bits.specs.Numbered.{length-numbered}
 use Rattle.tetra_bits.specs.Plain.{best_plain}
 use Rattle.tetra_bits.specs.Readings.{entry}
 use Rattle.tetra_bits.specs.Soft.{AllSoft}
@@ -20,12 +20,10 @@ use Rattle.tetra_scramble.specs.Flips.{turned}
 use Rattle.tetra_puncture.specs.Best.{best_of, message_metric}
 use Rattle.tetra_puncture.specs.Places.{two_thirds, IsTwoThirds}
 use Rattle.tetra_puncture.specs.Plan.{CodePlan, PlacesRise, PlacesLie}
-use Rattle.tetra_puncture.specs.Spread.{spread_values}
-use Rattle.tetra_puncture.specs.ToGo.{potential, potential_row, potentials_of}
+use Rattle.tetra_puncture.specs.ToGo.{potentials_of}
 use Rattle.tetra_puncture.specs.TwoThirdsLaws.{two_thirds_rise, two_thirds_lie}
 use Rattle.tetra_puncture.proofs.Bounds.{message_metric_small}
-use Rattle.tetra_puncture.proofs.Sent.{cost_to_go_sent}
-use Rattle.tetra_puncture.proofs.ToGo.{cost_to_go_is_found}
+use Rattle.tetra_puncture.proofs.Shapes.{length-best_of, length-potentials_of, length-row_of_potentials, potential_sent}
 use Rattle.tetra_scramble.proofs.Entries.{length-turned}
 use Rattle.tetra_settings.specs.Slots.{byte_of}
 use Rattle.tetra_settings.specs.Readings.{IsRow, IsMarked, HasRows, rows_of, IsField, IsWellFormed}
@@ -48,8 +46,7 @@ sound : IsTwoThirds 288 432
 sound = (refl, omega arith, omega arith, refl)
 
 best_size : (values : List ℤ) → length (best_of plan values) ≡ 284
-unfolding best_of
-best_size values = (best_is_first 284 (message_metric plan values)).has_length
+best_size values = length-best_of plan values
 
 word_size : (soft : List ℤ) → length (word_values soft) ≡ 432
 unfolding word_values
@@ -73,11 +70,11 @@ full_rows true rows h = (omega arith, h)
 full_rows false rows h = (omega arith, h)
 
 full_field : (values : List ℤ) → IsField (record { name = Full; reading = coded_reading 16 plan values })
-unfolding coded_reading mark_of potentials_of
+unfolding coded_reading mark_of
 full_field values = record {
   bits = best_size values;
   mark = full_marked _;
-  potentials = full_rows _ (potentials_of plan values) (length-numbered (potential_row plan (spread_values plan values)) 289);
+  potentials = full_rows _ (potentials_of plan values) (length-potentials_of plan values);
 }
 
 -- a field of unprotected data
@@ -136,26 +133,17 @@ pub front_formed : (letter : Letter) (byte : ℕ) (key : List Bool) (soft : List
     → IsFront (front_made byte fields)
 front_formed letter byte key soft fields h e f = record { row = rw (e, f) (heard_row key soft letter h); fields = rw f (heard_fields key soft letter h) }
 
--- an entry of the potentials
+-- an entry of the potentials, and 0 behind them
 module _ (p : CodePlan) (rise : PlacesRise p) (lie : PlacesLie p) (values : List ℤ) (soft : AllSoft values) where
-  row_small : (t s : ℕ) → t ≤ p.steps → get_or (potential_row p (spread_values p values) (t + 1)) s 0 ≤ 127 * p.sent
-  unfolding potential_row potential
-  row_small t s h =
-      let row : ℕ → ℕ = potential p (spread_values p values) (t + 1) in
-      elim (cases_lt s 16) [
-        | inl within ↦
-            let first : t + 1 - 1 ≤ p.steps = omega arith in
-            rw (get_or-numbered row 16 s 0 within) (cost_to_go_sent p values (t + 1 - 1) (s + 1 - 1) _ rise lie soft (cost_to_go_is_found p (spread_values p values) (t + 1 - 1) (s + 1 - 1) first))
-        | inr past ↦ rw (get_or_past (numbered row 16) s 0 (omega (arith, length-numbered row 16))) (omega arith)
-      ]
-
   entry_small : (t s : ℕ) → entry (potentials_of p values) t s ≤ 127 * p.sent
-  unfolding entry potentials_of
+  unfolding entry
   entry_small t s =
-      let rows : ℕ → List ℕ = potential_row p (spread_values p values) in
       elim (cases_lt t (p.steps + 1)) [
-        | inl within ↦ rw (get_or-numbered rows (p.steps + 1) t [] within) (row_small t s (omega arith))
-        | inr past ↦ rw (get_or_past (numbered rows (p.steps + 1)) t [] (omega (arith, length-numbered rows (p.steps + 1)))) (omega arith)
+        | inl within ↦ elim (cases_lt s 16) [
+          | inl state ↦ potential_sent p values t s rise lie soft (omega arith) state
+          | inr past ↦ rw (get_or_past (get_or (potentials_of p values) t []) s 0 (omega (arith, length-row_of_potentials p values t (omega arith)))) (omega arith)
+        ]
+        | inr past ↦ rw (get_or_past (potentials_of p values) t [] (omega (arith, length-potentials_of p values))) (omega arith)
       ]
 
 -- a field of SCH/F

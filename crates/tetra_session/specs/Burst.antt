@@ -10,7 +10,7 @@ use Rattle.tetra_session.specs.declared.burst.Train.TheVariants.{N, P}
 use Rattle.tetra_session.specs.declared.burst.Source.{Source}
 use Rattle.tetra_session.specs.declared.burst.Source.TheVariants.{Silent, Tail, FirstBlock, Training, SecondBlock}
 
--- what stands at position k, from 1 to 510
+-- the table of the burst: what stands at position k of the slot, from 1 to 510
 unfoldable pub source_at : ℕ → Source
 source_at k =
     if nat_le k 34 then Silent
@@ -54,7 +54,7 @@ burst_value train word k = written train word (source_at k)
 unfoldable pub burst : Train → List Bool → List ℤ
 burst train word = numbered (burst_value train word) 510
 
--- the position at which bit k of the word stands
+-- the position at which bit k of the word stands: bits 1 to 216 are the first block, 217 to 432 the second
 abbrev pub word_position : ℕ → ℕ
 word_position k = if nat_le k 216 then 38 + k else 60 + k
 

@@ -16,7 +16,9 @@ use tetra_settings::{Letter, Settings, SlotReading, slot_use};
 #[derive(Drop)]
 pub struct Receiver {
     settings: Settings,
+    /// The key of the colour, made once.
     key: Key,
+    /// The number of slots so far, so that of the slot whose turn it is.
     turn: u32,
     ghost ranges: { IsInRanges settings },
     ghost built: { IsTrue (is_built settings) },

@@ -14,7 +14,9 @@ use tetra_settings::{Body, Settings, SlotBlocks};
 #[derive(Drop)]
 pub struct Sender {
     settings: Settings,
+    /// The key of the colour, made once.
     key: Key,
+    /// The number of slots so far, so that of the slot whose turn it is.
     turn: u32,
     ghost ranges: { IsInRanges settings },
     ghost built: { IsTrue (is_built settings) },

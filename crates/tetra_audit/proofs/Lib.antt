@@ -1,0 +1,4 @@
+pub mod FieldCases
+pub mod FieldsInOrder
+pub mod Tables
+pub mod Testing

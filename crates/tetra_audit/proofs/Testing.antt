@@ -1,0 +1,201 @@
+-- The tests of a field.
+use Prim.Native.Nat.{zero, suc}
+use Rattle.std.proofs.Common.{◌≡◌, ◌≢◌, inl, inr, ℕ, ◌+◌, ◌-◌, ◌*◌, ◌<◌, ◌≤◌, Bool, true, false, not, eqb, ◌||◌, List, length, take, drop, get_or, ℤ, Some, None, arith, refl, sym, ap, subst, ◌∙◌, length-drop}
+use Rattle.std.proofs.lemmas.Bool.{cases_lt}
+use Rattle.std.proofs.lemmas.Bool.Decides.{nat_tests}
+use Rattle.std.proofs.lemmas.List.{get_or-take, get_or-drop, get_or_past, length-take, length-take-le, take_all}
+use Rattle.std.proofs.lemmas.Slice.Eq.{bytes_eq-Decides}
+use Rattle.std.specs.List.{list_any, range_with_len}
+use Rattle.std.specs.Str.{bytes_eq}
+use Rattle.tetra_bits.specs.Packed.{bytes_for, packed, bit_in, HasPad, unpacked_bit}
+use Rattle.tetra_bits.specs.Numbered.{numbered, length-numbered}
+use Rattle.tetra_bits.proofs.Packing_lists.{packed_apart, packed_pads, packed_taken, pads_clean}
+use Rattle.tetra_bits.specs.declared.reading.Mark.{Mark}
+use Rattle.tetra_cert.specs.Verdicts.{verdict_of}
+use Rattle.tetra_cert.specs.declared.verdict.Verdict.TheVariants.{Accepted, Refused}
+use Rattle.tetra_channels.specs.Fields.{coded_reading, mark_of}
+use Rattle.tetra_puncture.specs.Best.{best_of, message_metric}
+use Rattle.tetra_puncture.specs.Plan.{CodePlan}
+use Rattle.tetra_puncture.specs.declared.rule.Rule.{Rule}
+use Rattle.tetra_records.specs.Readings.{mark_byte}
+use Rattle.tetra_audit.specs.Claims.{claimed_bits, claimed_table, has_pad, mark_part, metric_part, bits_part, table_part}
+use Rattle.tetra_audit.specs.Parts.{head_why, plain_why, coded_why}
+use Rattle.tetra_audit.specs.Verdicts.{pad_fault, bits_fault, cert_fault, metric_fault, mark_fault}
+use Rattle.tetra_audit.specs.declared.verdict.FieldWhy.TheVariants.{Pad, Bits, Cert, Metric, Mark as MarkFails}
+
+is_not : (x y : ℕ) → x ≢ y → eqb x y ≡ false
+is_not x y e = grind (arith, nat_tests)
+
+is_same : (x y : ℕ) → x ≡ y → eqb x y ≡ true
+is_same x y e = grind (arith, nat_tests)
+
+not_same : (xs ys : List ℕ) → xs ≢ ys → bytes_eq xs ys ≡ false
+not_same xs ys ne = at (bytes_eq xs ys) refl
+  where
+    at : (b : Bool) → bytes_eq xs ys ≡ b → bytes_eq xs ys ≡ false
+    at true e = absurd (ne ((bytes_eq-Decides xs ys).0 e))
+    at false e = e
+
+all_same : (xs ys : List ℕ) → xs ≡ ys → bytes_eq xs ys ≡ true
+all_same xs ys e = (bytes_eq-Decides xs ys).1 e
+
+-- what `!=` of two lists of bytes says
+pub differs : (xs ys zs : List ℕ) → xs ≡ zs → true ≡ not (bytes_eq xs ys) → ys ≢ zs
+differs xs ys zs same e f =
+    let is : bytes_eq xs ys ≡ true = (bytes_eq-Decides xs ys).1 (same ∙ sym f) in
+    let clash : true ≡ false = e ∙ ap not is in
+    cc
+
+pub agrees : (xs ys zs : List ℕ) → xs ≡ zs → false ≡ not (bytes_eq xs ys) → ys ≡ zs
+agrees xs ys zs same e = at (bytes_eq xs ys) refl
+  where
+    at : (b : Bool) → bytes_eq xs ys ≡ b → ys ≡ zs
+    at true is = sym ((bytes_eq-Decides xs ys).0 is) ∙ same
+    at false is = let clash : false ≡ true = e ∙ ap not is in absurd (cc)
+
+-- the last two tests
+pub metric_differs : (metric : ℕ) (mark : Mark) (bytes : List ℕ) → metric_part bytes ≢ metric → head_why metric mark bytes ≡ Some Metric
+unfolding head_why metric_fault
+metric_differs metric mark bytes h = let e : eqb (metric_part bytes) metric ≡ false = is_not (metric_part bytes) metric h in rw e refl
+
+pub mark_differs : (metric : ℕ) (mark : Mark) (bytes : List ℕ) → metric_part bytes ≡ metric → mark_part bytes ≢ mark_byte mark → head_why metric mark bytes ≡ Some MarkFails
+unfolding head_why metric_fault mark_fault
+mark_differs metric mark bytes g h =
+    let d : eqb (metric_part bytes) metric ≡ true = is_same (metric_part bytes) metric g in
+    let e : eqb (mark_part bytes) (mark_byte mark) ≡ false = is_not (mark_part bytes) (mark_byte mark) h in
+    rw (d, e) refl
+
+pub head_agrees : (metric : ℕ) (mark : Mark) (bytes : List ℕ) → metric_part bytes ≡ metric → mark_part bytes ≡ mark_byte mark → head_why metric mark bytes ≡ None
+unfolding head_why metric_fault mark_fault
+head_agrees metric mark bytes g h =
+    let d : eqb (metric_part bytes) metric ≡ true = is_same (metric_part bytes) metric g in
+    let e : eqb (mark_part bytes) (mark_byte mark) ≡ true = is_same (mark_part bytes) (mark_byte mark) h in
+    rw (d, e) refl
+
+-- the pad bits
+any_bit : (p : ℕ → Bool) (a n k : ℕ) → a ≤ k → k < a + n → p k ≡ true → list_any p (range_with_len a n) ≡ true
+any_bit p a zero k from to is = absurd (omega arith)
+any_bit p a (suc n) k from to is = elim (cases_lt a k) [
+  | inl lt ↦ let rest : list_any p (range_with_len (a + 1) n) ≡ true = any_bit p (a + 1) n k (omega arith) (omega arith) is in rw rest (or_true (p a))
+  | inr le ↦ let e : k ≡ a = omega arith in let here : p a ≡ true = ap p (sym e) ∙ is in rw here refl
+]
+  where
+    or_true : (b : Bool) → (b || true) ≡ true
+    or_true true = refl
+    or_true false = refl
+
+no_bit : (p : ℕ → Bool) (a n : ℕ) → ((k : ℕ) → a ≤ k → k < a + n → p k ≡ false) → list_any p (range_with_len a n) ≡ false
+no_bit p a zero none = refl
+no_bit p a (suc n) none =
+    let here : p a ≡ false = none a (omega arith) (omega arith) in
+    let rest : list_any p (range_with_len (a + 1) n) ≡ false = no_bit p (a + 1) n (λ k from to. none k (omega arith) (omega arith)) in
+    rw (here, rest) refl
+
+pub pad_found : (bytes : List ℕ) (len : ℕ) → HasPad bytes len → has_pad bytes len ≡ true
+unfolding has_pad
+pad_found bytes len (k, behind, within, is) = any_bit (bit_in bytes) len (8 * length bytes - len) k behind (omega arith) is
+
+pub no_pad_found : (bytes : List ℕ) (len : ℕ) → (HasPad bytes len → ⊥) → has_pad bytes len ≡ false
+unfolding has_pad
+no_pad_found bytes len none = no_bit (bit_in bytes) len (8 * length bytes - len) (λ k from to. pads_clean bytes len none k from (omega arith))
+
+-- the bytes of a part are bytes
+small_part : (bytes : List ℕ) (n : ℕ) → ((q : ℕ) → get_or bytes q 0 < 256) → (q : ℕ) → get_or (take n (drop 3 bytes)) q 0 < 256
+small_part bytes n small q = elim (cases_lt q n) [
+  | inl lt ↦ let e : get_or (take n (drop 3 bytes)) q 0 ≡ get_or bytes (3 + q) 0 = get_or-take n (drop 3 bytes) q 0 lt ∙ get_or-drop 3 bytes q 0 in omega (arith, small (3 + q))
+  | inr le ↦ let e : get_or (take n (drop 3 bytes)) q 0 ≡ 0 = get_or_past (take n (drop 3 bytes)) q 0 (omega (arith, length-take n (drop 3 bytes))) in omega arith
+]
+
+length-part : (bytes : List ℕ) (n : ℕ) → 3 + n ≤ length bytes → length (take n (drop 3 bytes)) ≡ n
+length-part bytes n h =
+    let l : length (drop 3 bytes) ≡ length bytes - 3 = length-drop 3 bytes in
+    length-take-le n (drop 3 bytes) (omega arith)
+
+-- bits that are packed so are those that are claimed
+pub claimed_is : (part : List ℕ) (len : ℕ) (message : List Bool) → ((q : ℕ) → get_or part q 0 < 256) → length part ≡ bytes_for len → length message ≡ len → packed message ≡ part →
+    message ≡ claimed_bits part len
+unfolding claimed_bits
+claimed_is part len message small size long e =
+    let none : HasPad part len → ⊥ = packed_pads message part len long e in
+    packed_apart message (numbered (unpacked_bit part) len) (long ∙ sym (length-numbered (unpacked_bit part) len))
+    (e ∙ sym (packed_taken part len small size (pads_clean part len none)))
+
+-- the tests of a field whose bits come by no trellis, where its bits stand in the n bytes behind the third
+module _ (bits : List Bool) (mark : Mark) (bytes : List ℕ) (n len : ℕ) (en : n ≡ bytes_for (length bits)) (el : len ≡ length bits) where
+  part_is : take n (drop 3 bytes) ≡ bits_part (length bits) bytes
+  part_is = ap (λ k. take k (drop 3 bytes)) en
+
+  pad_there : HasPad (take n (drop 3 bytes)) len → HasPad (bits_part (length bits) bytes) (length bits)
+  pad_there h = subst (λ (k : ℕ). HasPad (bits_part (length bits) bytes) k) el (subst (λ (part : List ℕ). HasPad part len) part_is h)
+
+  pad_here : HasPad (bits_part (length bits) bytes) (length bits) → HasPad (take n (drop 3 bytes)) len
+  pad_here h = subst (λ (k : ℕ). HasPad (take n (drop 3 bytes)) k) (sym el) (subst (λ (part : List ℕ). HasPad part (length bits)) (sym part_is) h)
+
+  pub plain_pad : HasPad (take n (drop 3 bytes)) len → plain_why bits mark bytes ≡ Some Pad
+  unfolding plain_why pad_fault
+  plain_pad h = let e : has_pad (bits_part (length bits) bytes) (length bits) ≡ true = pad_found (bits_part (length bits) bytes) (length bits) (pad_there h) in rw e refl
+
+  pub plain_bits : (HasPad (take n (drop 3 bytes)) len → ⊥) → take n (drop 3 bytes) ≢ packed bits → plain_why bits mark bytes ≡ Some Bits
+  unfolding plain_why pad_fault bits_fault
+  plain_bits none differ =
+      let e : has_pad (bits_part (length bits) bytes) (length bits) ≡ false = no_pad_found (bits_part (length bits) bytes) (length bits) (λ h. none (pad_here h)) in
+      let f : bytes_eq (bits_part (length bits) bytes) (packed bits) ≡ false = not_same (bits_part (length bits) bytes) (packed bits) (λ g. differ (part_is ∙ g)) in
+      rw (e, f) refl
+
+  pub plain_head : (HasPad (take n (drop 3 bytes)) len → ⊥) → take n (drop 3 bytes) ≡ packed bits → plain_why bits mark bytes ≡ head_why 0 mark bytes
+  unfolding plain_why pad_fault bits_fault head_why
+  plain_head none same =
+      let e : has_pad (bits_part (length bits) bytes) (length bits) ≡ false = no_pad_found (bits_part (length bits) bytes) (length bits) (λ h. none (pad_here h)) in
+      let f : bytes_eq (bits_part (length bits) bytes) (packed bits) ≡ true = all_same (bits_part (length bits) bytes) (packed bits) (sym part_is ∙ same) in
+      rw (e, f) refl
+
+-- the tests of a field of a code, where its table begins behind so many bytes
+module _ (par : ℕ) (p : CodePlan) (soft : List ℤ) (bytes : List ℕ) (behind len : ℕ) (en : behind ≡ 3 + bytes_for (p.steps - 4)) (el : len ≡ p.steps - 4) where
+  coded_part : take (behind - 3) (drop 3 bytes) ≡ bits_part (p.steps - 4) bytes
+  coded_part = let n : behind - 3 ≡ bytes_for (p.steps - 4) = omega arith in ap (λ k. take k (drop 3 bytes)) n
+
+  coded_there : HasPad (take (behind - 3) (drop 3 bytes)) len → HasPad (bits_part (p.steps - 4) bytes) (p.steps - 4)
+  coded_there h = subst (λ (k : ℕ). HasPad (bits_part (p.steps - 4) bytes) k) el (subst (λ (part : List ℕ). HasPad part len) coded_part h)
+
+  coded_here : HasPad (bits_part (p.steps - 4) bytes) (p.steps - 4) → HasPad (take (behind - 3) (drop 3 bytes)) len
+  coded_here h = subst (λ (k : ℕ). HasPad (take (behind - 3) (drop 3 bytes)) k) (sym el) (subst (λ (part : List ℕ). HasPad part (p.steps - 4)) (sym coded_part) h)
+
+  pub coded_pad : HasPad (take (behind - 3) (drop 3 bytes)) len → coded_why par p soft bytes ≡ Some Pad
+  unfolding coded_why pad_fault
+  coded_pad h = let e : has_pad (bits_part (p.steps - 4) bytes) (p.steps - 4) ≡ true = pad_found (bits_part (p.steps - 4) bytes) (p.steps - 4) (coded_there h) in rw e refl
+
+  -- what was read of it
+  module _ (message : List Bool) (table : List (List ℕ)) (rows : ℕ) (small : (q : ℕ) → get_or bytes q 0 < 256) (long : behind ≤ length bytes)
+      (size : length message ≡ len) (taken : packed message ≡ take (behind - 3) (drop 3 bytes)) (er : rows ≡ p.steps + 1)
+      (read : table ≡ claimed_table (take (length bytes - behind) (drop behind bytes)) rows) where
+    no_pad : HasPad (bits_part (p.steps - 4) bytes) (p.steps - 4) → ⊥
+    no_pad h = packed_pads message (take (behind - 3) (drop 3 bytes)) len size taken (coded_here h)
+
+    message_is : message ≡ claimed_bits (bits_part (p.steps - 4) bytes) (p.steps - 4)
+    message_is =
+        let n : behind - 3 ≡ bytes_for (p.steps - 4) = omega arith in
+        claimed_is (take (behind - 3) (drop 3 bytes)) len message (small_part bytes (behind - 3) small) (length-part bytes (behind - 3) (omega arith) ∙ (n ∙ ap bytes_for (sym el))) size taken
+        ∙ (ap (λ part. claimed_bits part len) coded_part ∙ ap (claimed_bits (bits_part (p.steps - 4) bytes)) el)
+
+    table_is : table ≡ claimed_table (table_part (p.steps - 4) bytes) (p.steps + 1)
+    table_is =
+        let whole : take (length bytes - behind) (drop behind bytes) ≡ drop behind bytes = take_all (length bytes - behind) (drop behind bytes) (omega (arith, length-drop behind bytes)) in
+        read ∙ (ap (λ part. claimed_table part rows) whole ∙ (ap (λ k. claimed_table (drop k bytes) rows) en ∙ ap (claimed_table (table_part (p.steps - 4) bytes)) er))
+
+    verdict_is : verdict_of p soft message table ≡ verdict_of p soft (claimed_bits (bits_part (p.steps - 4) bytes) (p.steps - 4)) (claimed_table (table_part (p.steps - 4) bytes) (p.steps + 1))
+    verdict_is = ap (λ m. verdict_of p soft m table) message_is ∙ ap (verdict_of p soft (claimed_bits (bits_part (p.steps - 4) bytes) (p.steps - 4))) table_is
+
+    pub coded_cert : (t s : ℕ) (rule : Rule) → Refused t s rule ≡ verdict_of p soft message table → coded_why par p soft bytes ≡ Some (Cert t s rule)
+    unfolding coded_why pad_fault cert_fault
+    coded_cert t s rule e =
+        let f : has_pad (bits_part (p.steps - 4) bytes) (p.steps - 4) ≡ false = no_pad_found (bits_part (p.steps - 4) bytes) (p.steps - 4) no_pad in
+        let v : verdict_of p soft (claimed_bits (bits_part (p.steps - 4) bytes) (p.steps - 4)) (claimed_table (table_part (p.steps - 4) bytes) (p.steps + 1)) ≡ Refused t s rule = sym (e ∙ verdict_is) in
+        rw (f, v) refl
+
+    pub coded_head : (metric : ℕ) (mark : Mark) → Accepted ≡ verdict_of p soft message table → metric ≡ message_metric p soft (best_of p soft) → mark ≡ mark_of par (best_of p soft) →
+        head_why metric mark bytes ≡ coded_why par p soft bytes
+    unfolding coded_why pad_fault cert_fault head_why coded_reading
+    coded_head metric mark e em ek =
+        let f : has_pad (bits_part (p.steps - 4) bytes) (p.steps - 4) ≡ false = no_pad_found (bits_part (p.steps - 4) bytes) (p.steps - 4) no_pad in
+        let v : verdict_of p soft (claimed_bits (bits_part (p.steps - 4) bytes) (p.steps - 4)) (claimed_table (table_part (p.steps - 4) bytes) (p.steps + 1)) ≡ Accepted = sym (e ∙ verdict_is) in
+        rw (f, v, em, ek) refl

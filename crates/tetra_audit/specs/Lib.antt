@@ -1,0 +1,4 @@
+pub mod Claims
+pub mod Fields
+pub mod Parts
+pub mod Verdicts

@@ -11,6 +11,8 @@ mod drawn;
 #[cfg(test)]
 mod faults;
 #[cfg(test)]
+mod lengths;
+#[cfg(test)]
 mod plain;
 #[cfg(test)]
 mod rows;

@@ -1,6 +1,8 @@
 // Coded channels.
-ghost use Rattle.std.specs.Prelude.{◌≡◌, ◌+◌, length};
+ghost use Rattle.std.specs.Prelude.{◌≡◌, ◌+◌, false, pos, length};
+ghost use Rattle.tetra_interleave.specs.Block.{IsInterleaved};
 ghost use Rattle.tetra_puncture.specs.Best.{IsFirstLeast};
+ghost use Rattle.tetra_scramble.specs.Flips.{flipped, turned};
 ghost use Rattle.tetra_channels.specs.Channels.{IsChannel, type3_bits, type5_bits, front_values};
 ghost use Rattle.tetra_channels.specs.Fields.{coded_reading, IsMarked};
 ghost use Rattle.tetra_channels.specs.Laws.{UndamagedIsRead};
@@ -53,6 +55,7 @@ impl<const PAR: usize, const K3: usize, const A: usize, const INV: usize, P: Pla
         requires channel { IsChannel P.IsSound PAR K3 A INV P.plan }
         requires size { length block.now + PAR + 4 ≡ P.STEPS }
         ensures bits { result ≡ type5_bits PAR INV P.plan key.now block.now }
+        ensures placed { IsInterleaved false K3 A (type3_bits PAR P.plan block.now) (flipped result key.now 1) }
         ensures size { length result ≡ K3 }
     {
         let interleaved = Block::<K3, A, INV>::bits_out(&Self::type3(block));
@@ -64,6 +67,7 @@ impl<const PAR: usize, const K3: usize, const A: usize, const INV: usize, P: Pla
         requires channel { IsChannel P.IsSound PAR K3 A INV P.plan }
         requires size { length soft.now ≡ K3 }
         ensures values { result ≡ front_values K3 A key.now soft.now }
+        ensures placed { IsInterleaved (pos 0) K3 A result (turned soft.now key.now 1) }
         ensures size { length result ≡ K3 }
     {
         let mut values = Soft::new();
@@ -76,6 +80,7 @@ impl<const PAR: usize, const K3: usize, const A: usize, const INV: usize, P: Pla
         requires channel { IsChannel P.IsSound PAR K3 A INV P.plan }
         requires size { length soft.now ≡ K3 }
         ensures values { values.new ≡ front_values K3 A key.now soft.now }
+        ensures placed { IsInterleaved (pos 0) K3 A values.new (turned soft.now key.now 1) }
         ensures size { length values.new ≡ K3 }
     {
         Block::<K3, A, INV>::soft_back_into(&flip_soft(soft, key, 1), values);

@@ -1,5 +1,5 @@
 -- Slots with what is claimed for them, at the front of the input.
-use Rattle.std.proofs.Common.{◌≡◌, ℕ, ◌+◌, ◌<◌, ◌≤◌, List, [], ◌∷◌, ◌++◌, length, map, refl, ap, sym, ◌∙◌, arith, length-append, append_assoc, append-nil, true, false, IsTrue, subst, ℤ}
+use Rattle.std.proofs.Common.{◌≡◌, ℕ, ◌+◌, ◌<◌, ◌≤◌, List, [], ◌∷◌, ◌++◌, length, map, refl, ap, sym, ◌∙◌, arith, length-append, append_assoc, append-nil, true, false, IsTrue, subst, ℤ, Bool, All, zero, suc}
 use Rattle.std.proofs.lemmas.List.{map-append, length-map}
 use Rattle.std.specs.declared.option.Option.{Option}
 use Rattle.std.specs.Io.KnownBytes.{Consumes}
@@ -7,10 +7,14 @@ use Rattle.tetra_settings.specs.declared.types.Settings.{Settings}
 use Rattle.tetra_engine.specs.declared.status.Status.TheVariants.{NotBuilt}
 use Rattle.tetra_engine.specs.declared.refusals.Refusals.{Refusals}
 use Rattle.tetra_session.specs.declared.receiver.Receiver.{Receiver}
-use Rattle.tetra_engine.specs.declared.temporary.SlotVerdict.{SlotVerdict}
-use Rattle.tetra_engine.specs.declared.temporary.SlotVerdict.TheVariants.{Agrees, Kind, Field}
-use Rattle.tetra_session.specs.Heard.{ReceiverStands, slot_letter}
-use Rattle.tetra_engine.specs.BelowReading.{claim_length}
+use Rattle.tetra_audit.specs.declared.verdict.SlotVerdict.{SlotVerdict}
+use Rattle.tetra_audit.specs.declared.verdict.SlotVerdict.TheVariants.{Agrees, Kind, Field}
+use Rattle.tetra_session.specs.Heard.{ReceiverStands, slot_letter, slot_front, letter_heard, fields_heard}
+use Rattle.tetra_session.specs.declared.front.Front.{Front}
+use Rattle.tetra_session.specs.declared.front.FrontField.{FrontField}
+use Rattle.tetra_settings.specs.declared.slots.Letter.{Letter}
+use Rattle.tetra_settings.specs.declared.slots.Letter.TheVariants.{F, H, S, T, P, Q, C}
+use Rattle.tetra_audit.specs.Fields.{IsAudited, claim_length}
 use Rattle.tetra_engine.specs.Framing.{is_built_slot}
 use Rattle.tetra_engine.specs.Auditing.{Claimed, auditing, slots_of, front_at, refused_by, refused_slots, verdict_at}
 use Rattle.tetra_engine.specs.Refusals.{Counts}
@@ -80,3 +84,27 @@ refused_few settings before (x ∷ xs) =
 pub counts_number : (r : Refusals) (slots : List ℕ) → Counts r slots → r.count ≡ length slots
 counts_number r [] counts = counts
 counts_number r (slot ∷ slots) counts = counts.1
+
+one_field : (field : FrontField) → IsAudited field → All IsAudited (field ∷ [])
+one_field field audited zero d below = audited
+one_field field audited (suc k) d below = absurd (omega arith)
+
+no_field : All IsAudited []
+no_field k d below = absurd (omega arith)
+
+fields_audited : (letter : Letter) (key : List Bool) (soft : List ℤ) → All IsAudited (fields_heard letter key soft)
+fields_audited F key soft = one_field _ tt
+fields_audited T key soft = one_field _ tt
+fields_audited H key soft = no_field
+fields_audited S key soft = no_field
+fields_audited P key soft = no_field
+fields_audited Q key soft = no_field
+fields_audited C key soft = no_field
+
+heard_audited : (settings : Settings) (history : List (List ℤ)) (soft : List ℤ) → All IsAudited (slot_front settings history soft).fields.items
+unfolding slot_front
+heard_audited settings history soft = fields_audited (letter_heard settings (length history) soft) _ soft
+
+-- the fields of a front can be audited
+pub front_audited : (settings : Settings) (history : List (List ℤ)) (soft : List ℤ) (front : Front) → front ≡ slot_front settings history soft → All IsAudited front.fields.items
+front_audited settings history soft front is = subst (λ f. All IsAudited f.fields.items) (sym is) (heard_audited settings history soft)

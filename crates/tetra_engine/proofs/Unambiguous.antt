@@ -2,7 +2,7 @@
 use Rattle.std.proofs.Common.{◌≡◌, ℕ, List, ◌++◌, length, ap, sym, ◌∙◌, append_assoc, refl}
 use Rattle.tetra_settings.specs.declared.types.Settings.{Settings}
 use Rattle.tetra_engine.specs.Auditing.{auditing, Claimed, front_at}
-use Rattle.tetra_engine.specs.BelowReading.{claim_length}
+use Rattle.tetra_audit.specs.Fields.{claim_length}
 use Rattle.tetra_engine.specs.Decoding.{decoding}
 use Rattle.tetra_engine.specs.Shapes.{IsUnambiguous}
 use Rattle.tetra_engine.proofs.Cuts.{same_front, behind}

@@ -5,9 +5,10 @@ use Rattle.tetra_engine.specs.declared.status.Status.{Status}
 use Rattle.tetra_engine.specs.declared.status.Status.TheVariants.{Done, Refused}
 use Rattle.tetra_session.specs.declared.front.Front.{Front}
 use Rattle.tetra_session.specs.Heard.{slot_front}
-use Rattle.tetra_engine.specs.declared.temporary.SlotVerdict.{SlotVerdict}
-use Rattle.tetra_engine.specs.declared.temporary.SlotVerdict.TheVariants.{Agrees}
-use Rattle.tetra_engine.specs.BelowReading.{claim_length, verdict_of}
+use Rattle.tetra_audit.specs.declared.verdict.SlotVerdict.{SlotVerdict}
+use Rattle.tetra_audit.specs.declared.verdict.SlotVerdict.TheVariants.{Agrees}
+use Rattle.tetra_audit.specs.Fields.{claim_length}
+use Rattle.tetra_audit.specs.Verdicts.{slot_verdict}
 use Rattle.tetra_engine.specs.Framing.{is_built_slot, framing_stop}
 use Rattle.tetra_engine.specs.Shapes.{Shape}
 use Rattle.tetra_engine.specs.Slots.{soft_values}
@@ -27,7 +28,7 @@ front_at settings before slot = slot_front settings (slots_of before) (soft_valu
 
 -- the verdict on a slot behind those before it
 abbrev pub verdict_at : Settings → List Claimed → Claimed → SlotVerdict
-verdict_at settings before input = verdict_of settings.rows (front_at settings before input.0) input.1
+verdict_at settings before input = slot_verdict settings.rows (front_at settings before input.0) input.1
 
 -- the number of a slot, where it is refused
 abbrev pub refused_by : ℕ → SlotVerdict → List ℕ

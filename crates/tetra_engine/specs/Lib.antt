@@ -8,7 +8,6 @@ pub mod Built
 pub mod Below
 pub mod Encoding
 pub mod Encoder
-pub mod BelowReading
 pub mod Framing
 pub mod Decoding
 pub mod Decoder

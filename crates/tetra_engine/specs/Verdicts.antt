@@ -1,11 +1,11 @@
 -- The lines of an audit.
 use Rattle.std.specs.Prelude.{ℕ, List, ◌++◌, codes, decimal}
-use Rattle.tetra_engine.specs.declared.temporary.Rule.{Rule}
-use Rattle.tetra_engine.specs.declared.temporary.Rule.TheVariants.{End, Edge0, Edge1, Path, Tie}
-use Rattle.tetra_engine.specs.declared.temporary.FieldWhy.{FieldWhy}
-use Rattle.tetra_engine.specs.declared.temporary.FieldWhy.TheVariants.{Pad, Bits, Cert, Metric, Mark}
-use Rattle.tetra_engine.specs.declared.temporary.SlotVerdict.{SlotVerdict}
-use Rattle.tetra_engine.specs.declared.temporary.SlotVerdict.TheVariants.{Agrees, Kind, Field}
+use Rattle.tetra_cert.specs.declared.Rule.{Rule}
+use Rattle.tetra_cert.specs.declared.Rule.TheVariants.{End, Edge0, Edge1, Path, Tie}
+use Rattle.tetra_audit.specs.declared.verdict.FieldWhy.{FieldWhy}
+use Rattle.tetra_audit.specs.declared.verdict.FieldWhy.TheVariants.{Pad, Bits, Cert, Metric, Mark}
+use Rattle.tetra_audit.specs.declared.verdict.SlotVerdict.{SlotVerdict}
+use Rattle.tetra_audit.specs.declared.verdict.SlotVerdict.TheVariants.{Agrees, Kind, Field}
 
 abbrev pub rule_text : Rule → List ℕ
 rule_text End = codes "end"

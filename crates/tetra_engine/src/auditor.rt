@@ -7,16 +7,18 @@ ghost use Rattle.tetra_engine.specs.Auditing.{auditing, Claimed};
 use crate::refusals::Refusals;
 use crate::slots::read_values;
 use crate::status::Status;
-use crate::temporary::{RecordFault, audit_slot, claim_len};
+use crate::temporary::RecordFault;
 use crate::verdicts::line_of_slot;
 use crate::work::{Stop, Work};
 use arrayvec::ArrayVec;
+use tetra_audit::{audit_slot_with, claim_len};
+use tetra_bits::Potentials;
 use tetra_io::{Filled, Sink, SinkFault, Source, fill, put_all};
 use tetra_session::{Front, Receiver, is_built_letter};
 use tetra_settings::Settings;
 
-/// An audit: the slot that was read last with the record that is claimed for it, and what a receiver takes from the
-/// slot.
+/// An audit: the slot that was read last with the record that is claimed for it, what a receiver takes from the slot, and
+/// potentials into which certificates are read.
 #[derive(Drop)]
 pub struct Auditor {
     settings: Settings,
@@ -28,6 +30,7 @@ pub struct Auditor {
     front: Front,
     claim: [u8; 18_743],
     len: usize,
+    potentials: Potentials,
 }
 
 impl Auditor {
@@ -53,6 +56,7 @@ impl Auditor {
             },
             claim: [0; 18_743],
             len: 0,
+            potentials: Potentials::new(),
         }
     }
 }
@@ -95,7 +99,12 @@ impl Work for Auditor {
     }
 
     fn write<K: Sink>(&mut self, sink: &mut K) -> Result<(), SinkFault> {
-        let verdict = audit_slot(&self.settings.rows, &self.front, &self.claim[..self.len]);
+        let verdict = audit_slot_with(
+            &mut self.potentials,
+            &self.settings.rows,
+            &self.front,
+            &self.claim[..self.len],
+        );
         self.refusals.judge(self.slot as u64, verdict);
         let line = line_of_slot(self.slot as u64, verdict);
         put_all(sink, line.as_str().as_bytes())

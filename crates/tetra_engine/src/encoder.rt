@@ -74,7 +74,7 @@ impl Work for Encoder {
 
     fn write<K: Sink>(&mut self, sink: &mut K) -> Result<(), SinkFault> {
         let Some(blocks) = &self.blocks else {
-            return Ok(());
+            unreachable!();
         };
         let values = self.sender.slot(blocks);
         write_values(&values, &mut self.bytes);

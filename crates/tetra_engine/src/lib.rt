@@ -1,4 +1,7 @@
 //! A run of the program, from the words and the bytes that come in to the bytes that go out.
+//!
+//! Each command is a shape: which inputs a slot may have, how they are spelled, what is written for them and how a run
+//! ends. One loop serves them all. The outcome of a run, what stands after a fault and all texts are this project's own.
 #![tactic(auto)]
 
 mod auditor;
@@ -16,15 +19,8 @@ mod texts;
 mod verdicts;
 mod work;
 
-pub use auditor::Auditor;
-pub use decoder::Decoder;
-pub use encoder::Encoder;
 pub use engine::run;
 pub use laws::{one_cut, one_end};
 pub use lines::{exit_code, line};
 pub use rehearsal::rehearse;
-pub use slots::{read_values, write_values};
 pub use status::{End, Status};
-pub use temporary::{FieldWhy, RecordFault, Rule, SlotVerdict};
-pub use verdicts::{Line, line_of_slot};
-pub use work::{Stop, Work, drive, finish};

@@ -4,7 +4,7 @@ ghost use Rattle.tetra_engine.specs.Outcomes.{IsEnd};
 ghost use Rattle.tetra_engine.specs.Auditing.{audit_status, refused_by};
 
 use crate::status::Status;
-use crate::temporary::SlotVerdict;
+use tetra_audit::SlotVerdict;
 
 /// How many slots were refused, and the number of the first.
 #[derive(Clone, Copy, Debug, PartialEq, Eq)]

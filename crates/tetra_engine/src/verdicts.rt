@@ -2,9 +2,10 @@
 ghost use Rattle.std.specs.Prelude.{◌≡◌, ◌≤◌, ◌+◌, ◌++◌, length, codes};
 ghost use Rattle.tetra_engine.specs.Verdicts.{rule_text, field_text, verdict_text, verdict_line};
 
-use crate::temporary::{FieldWhy, Rule, SlotVerdict};
 use crate::texts::{add, add_number};
 use arrayvec::ArrayString;
+use tetra_audit::{FieldWhy, SlotVerdict};
+use tetra_cert::Rule;
 
 /// The line of a slot, with its newline.
 pub type Line = ArrayString<128>;

@@ -1,6 +1,15 @@
 //! Block records and reading records, to the byte. Their layouts are this project's own.
 #![tactic(auto)]
 
+mod faults;
+mod laws;
+mod parsing;
 mod readings;
+mod records;
+mod spelling;
 
+pub use faults::{NextFault, RecordFault};
+pub use laws::records_are_unambiguous;
 pub use readings::{add_reading, reading_bytes};
+pub use records::next_record;
+pub use spelling::block_bytes;

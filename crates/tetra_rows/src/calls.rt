@@ -1,5 +1,6 @@
 // No clause says that the values of a byte, the sent places and the parity of SCH/F are the ones that are written down.
 // These are values of single calls that were worked out by hand.
+use std::process::Abort;
 use tetra_bits::{Bits, cost, soft_of};
 use tetra_channels::Full;
 use tetra_puncture::{TwoThirds, keep};
@@ -25,11 +26,12 @@ fn values_of_bytes(rt: HostRuntime) {
     }
 }
 
-/// A bit and so many zeros.
-fn first_and_zeros(first: bool, zeros: usize) -> Bits {
+/// A bit with zeros behind it, so many together.
+fn padded(rt: &impl Abort, first: bool, size: usize) -> Bits {
     let mut bits = Bits::new();
     bits.push(first);
-    for _ in 0..zeros {
+    for _ in 1..size {
+        assert!(rt; bits.len() < 432);
         bits.push(false);
     }
     bits
@@ -37,12 +39,16 @@ fn first_and_zeros(first: bool, zeros: usize) -> Bits {
 
 #[test]
 fn sent_words(rt: HostRuntime) {
-    let word = keep::<TwoThirds<80, 120>>(&first_and_zeros(true, 75));
+    let message = padded(&rt, true, 76);
+    assert!(rt; message.len() == 76);
+    let word = keep::<TwoThirds<80, 120>>(&message);
     for (k, bit) in b"111010110".iter().enumerate() {
         assert!(rt; k < word.len());
         assert_eq!(rt; word.get(k), *bit == b'1', "bit {k}");
     }
-    let word = Full::type3(&first_and_zeros(false, 267));
+    let block = padded(&rt, false, 268);
+    assert!(rt; block.len() == 268);
+    let word = Full::type3(&block);
     for k in 0..408usize {
         assert!(rt; k < word.len());
         assert_eq!(rt; word.get(k), k == 404 || k == 406, "bit {k}");

@@ -8,14 +8,14 @@ use std::alloc::{AllocError, Global};
 use std::process::Abort;
 use std::test::Fail;
 
-/// So many drawn bits, packed with zeros behind them to the end of a byte.
-fn drawn(alloc: Global, pcg: &mut Pcg32, bytes: usize, spare: u32) -> Result<Vec<u8>, AllocError> {
+/// So many drawn bytes, the last under a mask.
+fn drawn(alloc: Global, pcg: &mut Pcg32, bytes: usize, mask: u8) -> Result<Vec<u8>, AllocError> {
     let mut packed = Vec::new(alloc);
     for _ in 0..bytes {
         packed.push(pcg.next_word().to_be_bytes()[0])?;
     }
     if let Some(last) = packed.last_mut() {
-        *last = *last >> spare << spare;
+        *last &= mask;
     }
     Ok(packed)
 }
@@ -62,8 +62,8 @@ fn sent_as_by_sums(rt: HostRuntime) -> Result<(), Fail> {
     ];
     for (words, [mcc, mnc, cc]) in rows {
         let scrambling = code::scrambling(&code::colour(mcc, mnc, cc));
-        let full = drawn(rt.alloc(), &mut pcg, 34, 4)?;
-        let load = drawn(rt.alloc(), &mut pcg, 54, 0)?;
+        let full = drawn(rt.alloc(), &mut pcg, 34, 0xF0)?;
+        let load = drawn(rt.alloc(), &mut pcg, 54, 0xFF)?;
         let mut input = Vec::from_slice(rt.alloc(), b"F")?;
         input.extend_from_slice(&full)?;
         input.push(b'T')?;
@@ -82,7 +82,7 @@ fn sent_as_by_sums(rt: HostRuntime) -> Result<(), Fail> {
 /// A slot of drawn bits, of which each value has a drawn size and one in twelve the wrong sign.
 fn received(alloc: Global, scrambling: &[bool; 464]) -> Result<[u8; 510], AllocError> {
     let mut pcg = Pcg32::new(2, 1);
-    let mut slot = signalling(&drawn(alloc, &mut pcg, 34, 4)?, scrambling);
+    let mut slot = signalling(&drawn(alloc, &mut pcg, 34, 0xF0)?, scrambling);
     for k in 0..510usize {
         let [_, _, sign, size] = pcg.next_word().to_be_bytes();
         let size = size % 128;

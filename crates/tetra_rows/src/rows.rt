@@ -1,6 +1,7 @@
 // No clause says that letters, lengths, layouts and texts are the ones that are written down. These are runs that were
 // worked out by hand.
-use crate::runs::{Row, holds};
+use crate::bytes::bytes;
+use crate::runs::{Row, SURE, holds, run_over};
 use std::test::Fail;
 
 const ENCODED: [Row; 13] = [
@@ -269,6 +270,24 @@ fn auditing(rt: HostRuntime) -> Result<(), Fail> {
     for row in &AUDITED {
         for piece in [509, 511] {
             holds(&rt, row, piece)?;
+        }
+    }
+    Ok(())
+}
+
+#[test]
+fn first_bits_under_three_keys(rt: HostRuntime) -> Result<(), Fail> {
+    let rows = [
+        ("encode dir=ul ts1=d72", "81 7F 81"),
+        ("encode dir=ul ts1=d72 mcc=512", "7F"),
+        ("encode dir=ul ts1=d72 cc=1", "81 7F 7F"),
+    ];
+    for (words, front) in rows {
+        let input = bytes(rt.alloc(), "54 54*00")?;
+        let front = bytes(rt.alloc(), front)?;
+        let ran = run_over(rt.alloc(), words, &input, SURE, 510)?;
+        for (k, byte) in front.iter().enumerate() {
+            assert_eq!(rt; ran.output.get(38 + k), Some(byte), "bit {k} of {words}");
         }
     }
     Ok(())

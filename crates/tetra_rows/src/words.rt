@@ -1,5 +1,5 @@
-// No clause says that keys, values, texts and exit codes are the ones that are written down, or that a run with such
-// words stops before anything is read, written or flushed at the first call.
+// No clause says that the keys, the values, the texts and the exit codes are the ones that are written down. Here each
+// first call of the source and of the sink would fail.
 use crate::runs::{Ends, SURE, run_over};
 use std::test::Fail;
 

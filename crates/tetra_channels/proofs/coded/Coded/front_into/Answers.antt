@@ -12,5 +12,8 @@ pub returns-clause-values : goal.returns-clause-values
 unfolding front_values
 returns-clause-values g c = c.soft_back_into.ensures.value ∙ ap (deinterleaved (pos 0) g.row.K3 g.row.A) c.flip_soft.ensures
 
+pub returns-clause-placed : goal.returns-clause-placed
+returns-clause-placed g c = rw (← c.flip_soft.ensures) c.soft_back_into.ensures.placed
+
 pub returns-clause-size : goal.returns-clause-size
 returns-clause-size g c = ap length c.soft_back_into.ensures.value ∙ length-deinterleaved (pos 0) g.row.K3 g.row.A c.flip_soft.result

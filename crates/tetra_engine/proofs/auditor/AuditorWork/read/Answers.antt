@@ -4,12 +4,12 @@ use Rattle.std.specs.Io.KnownBytes.{Consumes}
 use Rattle.std.proofs.KnownBytes.{Consumes-trans}
 use Rattle.tetra_session.specs.Heard.{ReceiverStands, slot_letter, slot_front}
 use Rattle.tetra_session.specs.Built.{is_built_letter}
-use Rattle.tetra_engine.specs.BelowReading.{claim_length}
+use Rattle.tetra_audit.specs.Fields.{claim_length}
 use Rattle.tetra_engine.specs.Framing.{is_built_slot}
 use Rattle.tetra_engine.specs.Auditing.{auditing, slots_of, front_at}
 use Rattle.tetra_engine.proofs.Fronts.{ended_behind, fault_behind, IsShort}
 use Rattle.tetra_engine.proofs.Framed.{take_front}
-use Rattle.tetra_engine.proofs.Audited.{unbuilt_claimed, letter_same, short_claim, refused_few, counts_number}
+use Rattle.tetra_engine.proofs.Audited.{unbuilt_claimed, letter_same, short_claim, front_audited, refused_few, counts_number}
 use Rattle.tetra_engine.proofs.auditor.AuditorWork.read.Goals as goal
 
 pub returns-then-not-is_built_letter-clause-gives : goal.returns-then-not-is_built_letter-clause-gives
@@ -47,6 +47,7 @@ returns-in-Whole-fill-clause-gives g c xs stands slot =
     let built : is_built_slot settings (length xs) c.fill.new.buf ≡ true = ap is_built_letter (sym letter) ∙ sym c.is_built_letter.ensures ∙ search rules in
     let front = c.front_into.ensures.front settings (slots_of xs) stands.receiver ∙ ap (slot_front settings (slots_of xs)) c.read_values.ensures.values in
     let len = c.claim_len-self.ensures.length ∙ ap claim_length front in
+    let heard = c.front_into.ensures.front settings (slots_of xs) stands.receiver in
     let next = c.front_into.ensures.stands settings (slots_of xs) stands.receiver in
     let size : length c.fill-2.new.buf ≡ c.claim_len-self.result = search rules in
     let few = refused_few settings [] xs in
@@ -60,6 +61,7 @@ returns-in-Whole-fill-clause-gives g c xs stands slot =
         slot = slot;
         front = front;
         formed = c.front_into.ensures.well_formed;
+        audited = front_audited settings (slots_of xs) c.read_values.new.soft c.front_into.new.front heard;
         size = c.claim_len-self.ensures.length;
         within = c.claim_len-self.ensures.most;
         claim = take_front c.claim_len-self.result c.fill-2.new.buf _ size;

@@ -11,7 +11,7 @@ returns-clause-stands g c xs x holds = record {
   receiver = subst (λ h. ReceiverStands c.args.self.now.settings h c.args.self.now.receiver) (sym (slots_more xs x)) holds.receiver;
   refusals =
       let settings = c.args.self.now.settings in
-      let verdict : c.audit_slot-verdict.result ≡ verdict_at settings xs x = search rules in
-      let same = ap (λ n. refused_by n c.audit_slot-verdict.result) holds.slot ∙ ap (refused_by (length xs)) verdict in
+      let verdict : c.audit_slot_with-verdict.result ≡ verdict_at settings xs x = search rules in
+      let same = ap (λ n. refused_by n c.audit_slot_with-verdict.result) holds.slot ∙ ap (refused_by (length xs)) verdict in
       subst (Counts c.judge.new.self) (ap (λ l. refused_slots settings [] xs ++ l) same ∙ sym (refused_more settings [] xs x)) (c.judge.ensures _ holds.refusals);
 }

@@ -1,0 +1,185 @@
+-- What a letter and the bytes behind it say of the told bytes that they came from.
+use Rattle.std.proofs.Common.{rules, ◌≡◌, ◌⊎◌, ℕ, ◌+◌, ◌≤◌, ◌<◌, List, [], ◌∷◌, ◌++◌, length, length-append, take, drop, Bool, true, false, not, nat_le, refl, sym, ap, ◌∙◌, subst, inl, inr, Option, Some, None, Result, Ok, Err, if◌then◌else◌, arith, length-take, find, nat_eq}
+use Rattle.std.specs.Prelude.{slice_index, IfSome, IsTrue}
+use Rattle.std.specs.Io.KnownBytes.{Consumes, IsAtEnd}
+use Rattle.std.proofs.KnownBytes.{Consumes-trans}
+use Rattle.std.proofs.Math.Seq.{take-append_seam}
+use Rattle.std.proofs.lemmas.Bool.{eqb-true}
+use Rattle.tetra_settings.specs.declared.types.Settings.{Settings}
+use Rattle.tetra_settings.specs.declared.slots.Letter.{Letter}
+use Rattle.tetra_settings.specs.declared.blocks.SlotBlocks.{SlotBlocks}
+use Rattle.tetra_settings.specs.Slots.{mode_of, byte_of, letters, letter_of_byte}
+use Rattle.tetra_settings.specs.Blocks.{letter_of, HasLengths, FitsAccess, Fits}
+use Rattle.tetra_records.specs.declared.faults.RecordFault.{RecordFault}
+use Rattle.tetra_records.specs.declared.faults.RecordFault.TheVariants.{UnknownKind, WrongKind, PadBit, Truncated}
+use Rattle.tetra_records.specs.declared.faults.NextFault.{NextFault}
+use Rattle.tetra_records.specs.declared.faults.NextFault.TheVariants.{Source, Bad}
+use Rattle.tetra_records.specs.declared.parsing.Layout.{Layout}
+use Rattle.tetra_records.specs.Spelling.{behind_letter, spelling}
+use Rattle.tetra_records.specs.Layouts.{head_bytes, record_bytes, IsOf, RecordHasPad}
+use Rattle.tetra_records.specs.Buffers.{TakesLess, BehindGives}
+use Rattle.tetra_records.specs.Records.{layout_of, allows_letter, why, why_behind, NoneBegins, taken, taken_behind, BeginsNone, TakesPart, RecordGives, PadBehind, HasPadBit}
+use Rattle.tetra_records.proofs.Beginnings.{unknown_begins, wrong_begins, short_begins, padded_begins}
+use Rattle.tetra_records.proofs.Filled.{size_kept}
+
+-- a buffer of one byte
+pub one_of : (buf : List ℕ) → length buf ≡ 1 → buf ≡ slice_index buf 0 ∷ []
+one_of [] e = absurd (omega arith)
+one_of (b ∷ []) e = refl
+one_of (b ∷ c ∷ buf) e = absurd (omega arith)
+
+found_passes : {X : Type 0} (p : X → Bool) (xs : List X) (x : X) → find p xs ≡ Some x → p x ≡ true
+found_passes p [] x e = cc
+found_passes p (y ∷ ys) x e = passed (p y) refl (found_passes p ys x) where
+  passed : (b : Bool) → p y ≡ b → (find p ys ≡ Some x → p x ≡ true) → p x ≡ true
+  passed true h later = let found : Some y ≡ Some x = rw h at e in let same : y ≡ x = cc in rw (← same) h
+  passed false h later = later (rw h at e)
+
+-- the letter of a byte has that byte
+letter_byte : (byte : ℕ) (letter : Letter) → letter_of_byte byte ≡ Some letter → byte_of letter ≡ byte
+unfolding letter_of_byte
+letter_byte byte letter e = eqb-true (byte_of letter) byte (found_passes (λ l. nat_eq (byte_of l) byte) letters letter e)
+
+too_short : (n m : ℕ) → m < n → nat_le n m ≡ false
+too_short n m h = grind arith
+
+long_enough : (n m : ℕ) → n ≤ m → nat_le n m ≡ true
+long_enough n m h = grind arith
+
+module _ (settings : Settings) (t byte : ℕ) where
+  -- the reasons, by what is known of the letter
+  why_unknown : (bytes : List ℕ) → letter_of_byte byte ≡ None → why settings t (byte ∷ bytes) ≡ UnknownKind
+  unfolding why
+  why_unknown bytes unknown = ap (λ l. why_behind settings t l bytes) unknown
+
+  why_wrong : (bytes : List ℕ) (letter : Letter) → letter_of_byte byte ≡ Some letter → allows_letter settings t letter ≡ false → why settings t (byte ∷ bytes) ≡ WrongKind
+  unfolding why
+  why_wrong bytes letter known wrong = ap (λ l. why_behind settings t l bytes) known ∙ rw wrong refl
+
+  why_short : (bytes : List ℕ) (letter : Letter) → letter_of_byte byte ≡ Some letter → allows_letter settings t letter ≡ true
+      → length bytes < record_bytes (layout_of settings t letter) bytes → why settings t (byte ∷ bytes) ≡ Truncated
+  unfolding why
+  why_short bytes letter known right short =
+      ap (λ l. why_behind settings t l bytes) known ∙ rw (right, too_short (record_bytes (layout_of settings t letter) bytes) (length bytes) short) refl
+
+  why_padded : (bytes : List ℕ) (letter : Letter) → letter_of_byte byte ≡ Some letter → allows_letter settings t letter ≡ true
+      → record_bytes (layout_of settings t letter) bytes ≤ length bytes → why settings t (byte ∷ bytes) ≡ PadBit
+  unfolding why
+  why_padded bytes letter known right long =
+      ap (λ l. why_behind settings t l bytes) known ∙ rw (right, long_enough (record_bytes (layout_of settings t letter) bytes) (length bytes) long) refl
+
+  pub unknown_from : (old mid : Option (List ℕ)) → Consumes old mid (byte ∷ []) → letter_of_byte byte ≡ None → BeginsNone settings t UnknownKind old mid
+  unfolding taken
+  unknown_from None mid came unknown = tt
+  unknown_from (Some xs) None came unknown = absurd came
+  unknown_from (Some xs) (Some ys) came unknown = rw came (omega arith, unknown_begins settings t byte ys unknown, why_unknown ys unknown, refl)
+
+  pub wrong_from : (old mid : Option (List ℕ)) (letter : Letter) → Consumes old mid (byte ∷ []) → letter_of_byte byte ≡ Some letter → allows_letter settings t letter ≡ false
+      → BeginsNone settings t WrongKind old mid
+  unfolding taken
+  wrong_from None mid letter came known wrong = tt
+  wrong_from (Some xs) None letter came known wrong = absurd came
+  wrong_from (Some xs) (Some ys) letter came known wrong = rw came (omega arith, wrong_begins settings t byte ys letter known wrong, why_wrong ys letter known wrong, refl)
+
+  module _ (letter : Letter) (known : letter_of_byte byte ≡ Some letter) (right : allows_letter settings t letter ≡ true) where
+    -- the bytes end inside the record
+    short_from : (old mid new : Option (List ℕ)) → Consumes old mid (byte ∷ []) → IfSome mid (λ bytes. (length bytes < record_bytes (layout_of settings t letter) bytes) × Consumes mid new bytes)
+        → BeginsNone settings t Truncated old new
+    unfolding taken
+    short_from None mid new came short = tt
+    short_from (Some xs) None new came short = absurd came
+    short_from (Some xs) (Some ms) None came short = absurd short.1
+    short_from (Some xs) (Some ms) (Some ys) came short =
+        rw came (omega arith, short_begins settings t byte ms letter known short.0, why_short ms letter known right short.0, ap (λ l. byte ∷ l) short.1)
+
+    -- a read failed inside the record
+    part_from : (old mid new : Option (List ℕ)) → Consumes old mid (byte ∷ []) → TakesLess (layout_of settings t letter) mid new → TakesPart settings t old new
+    part_from None mid new came took = tt
+    part_from (Some xs) None new came took = absurd came
+    part_from (Some xs) (Some ms) None came took = tt
+    part_from (Some xs) (Some ms) (Some ys) came (part, whole, short) =
+        (byte ∷ part, came ∙ ap (λ l. byte ∷ l) whole, inr (short_begins settings t byte part letter known short, why_short part letter known right short))
+
+    pub failed_from : (layout : Layout) (old mid new : Option (List ℕ)) (buf : List ℕ) (fault : NextFault) → layout ≡ layout_of settings t letter → Consumes old mid (byte ∷ [])
+        → BehindGives layout mid new (Err fault) buf → RecordGives settings t old new (Err fault)
+    failed_from layout old mid new buf (Source fault) same came gives = part_from old mid new came (subst (λ l. TakesLess l mid new) same gives)
+    failed_from layout old mid new buf (Bad fault) same came gives =
+        subst (λ f. BeginsNone settings t f old new) (sym gives.0)
+        (short_from old mid new came (subst (λ l. IfSome mid (λ bytes. (length bytes < record_bytes l bytes) × Consumes mid new bytes)) same gives.1))
+
+    -- the record is whole
+    module _ (layout : Layout) (old mid new : Option (List ℕ)) (buf : List ℕ) (n : ℕ) (same : layout ≡ layout_of settings t letter) (long : length buf ≡ 88)
+        (came : Consumes old mid (byte ∷ [])) (gives : BehindGives layout mid new (Ok n) buf) where
+      pub blocks_from : (blocks : SlotBlocks) → IsOf layout blocks → behind_letter blocks ≡ take n buf → Fits settings t blocks × Consumes old new (spelling blocks)
+      unfolding spelling
+      blocks_from blocks own behind =
+          let its : letter_of blocks.body ≡ letter = own.letter ∙ ap (λ l. l.letter) same in
+          let first : byte_of (letter_of blocks.body) ≡ byte = ap byte_of its ∙ letter_byte byte letter known in
+          let whole : (byte ∷ []) ++ take n buf ≡ byte_of (letter_of blocks.body) ∷ behind_letter blocks = sym (ap (λ b. b ∷ behind_letter blocks) first ∙ ap (λ l. byte ∷ l) behind) in (
+            record {
+              letter = ap (allows_letter settings t) its ∙ right;
+              lengths = subst (λ l. HasLengths l.mode blocks.body) same own.lengths;
+              access = subst (λ l. FitsAccess l.dir blocks.aach) same own.access;
+            },
+            subst (Consumes old new) whole (Consumes-trans old mid new (byte ∷ []) (take n buf) came gives.3),
+          )
+
+      -- the bytes of the record in what is told
+      told_size : (ys : List ℕ) → record_bytes (layout_of settings t letter) (take n buf ++ ys) ≡ length (take n buf)
+      told_size ys =
+          let size : length (take n buf) ≡ n = omega (arith, length-take n buf, gives.1) in
+          let head : head_bytes (layout_of settings t letter) ≤ length (take n buf) = omega (arith, size, gives.0, ap head_bytes same) in
+          size_kept (layout_of settings t letter) (take n buf) ys head ∙ ap (λ l. record_bytes l (take n buf)) (sym same) ∙ sym gives.2 ∙ sym size
+
+      told_record : (ys : List ℕ) → take (record_bytes (layout_of settings t letter) (take n buf ++ ys)) (take n buf ++ ys) ≡ take n buf
+      told_record ys = ap (λ k. take k (take n buf ++ ys)) (told_size ys) ∙ take-append_seam (take n buf) ys
+
+      -- a pad bit of the record is one of what is told
+      pad_told : (ys : List ℕ) → RecordHasPad layout (take n buf)
+          → RecordHasPad (layout_of settings t letter) (take (record_bytes (layout_of settings t letter) (take n buf ++ ys)) (take n buf ++ ys))
+      pad_told ys pad = subst (RecordHasPad (layout_of settings t letter)) (sym (told_record ys)) (subst (λ l. RecordHasPad l (take n buf)) same pad)
+
+      told_pad : (ys : List ℕ) → HasPadBit settings t (byte ∷ (take n buf ++ ys)) → RecordHasPad layout (take n buf)
+      unfolding HasPadBit
+      told_pad ys pad =
+          subst (λ l. RecordHasPad l (take n buf)) (sym same) (subst (RecordHasPad (layout_of settings t letter)) (told_record ys) (subst (λ l. PadBehind settings t l (take n buf ++ ys)) known pad))
+
+      pub clean_from : (RecordHasPad layout (take n buf) → ⊥) → IfSome old (λ bytes. HasPadBit settings t bytes → ⊥)
+      clean_from clean = at_bytes old mid new came gives.3 told_pad where
+        at_bytes : (a m b : Option (List ℕ)) → Consumes a m (byte ∷ []) → Consumes m b (take n buf) → ((ys : List ℕ) → HasPadBit settings t (byte ∷ (take n buf ++ ys)) → RecordHasPad layout (take n buf))
+            → IfSome a (λ bytes. HasPadBit settings t bytes → ⊥)
+        at_bytes None m b first more told = tt
+        at_bytes (Some xs) None b first more told = absurd first
+        at_bytes (Some xs) (Some ms) None first more told = absurd more
+        at_bytes (Some xs) (Some ms) (Some ys) first more told = λ pad. clean (told ys (subst (HasPadBit settings t) (first ∙ ap (λ l. byte ∷ l) more) pad))
+
+      pub padded_from : RecordHasPad layout (take n buf) → BeginsNone settings t PadBit old new
+      unfolding taken
+      padded_from pad = at_bytes old mid new came gives.3 told_size (λ ys. pad_told ys pad) told_record where
+        at_bytes : (a m b : Option (List ℕ)) → Consumes a m (byte ∷ []) → Consumes m b (take n buf)
+            → ((ys : List ℕ) → record_bytes (layout_of settings t letter) (take n buf ++ ys) ≡ length (take n buf))
+            → ((ys : List ℕ) → RecordHasPad (layout_of settings t letter) (take (record_bytes (layout_of settings t letter) (take n buf ++ ys)) (take n buf ++ ys)))
+            → ((ys : List ℕ) → take (record_bytes (layout_of settings t letter) (take n buf ++ ys)) (take n buf ++ ys) ≡ take n buf) → BeginsNone settings t PadBit a b
+        at_bytes None m b first more size has record_is = tt
+        at_bytes (Some xs) None b first more size has record_is = absurd first
+        at_bytes (Some xs) (Some ms) None first more size has record_is = absurd more
+        at_bytes (Some xs) (Some ms) (Some ys) first more size has record_is =
+            let all : xs ≡ byte ∷ (take n buf ++ ys) = first ∙ ap (λ l. byte ∷ l) more in
+            rw all (
+              omega arith,
+              padded_begins settings t byte (take n buf ++ ys) letter known (has ys),
+              why_padded (take n buf ++ ys) letter known right (omega (arith, size ys, length-append (take n buf) ys)),
+              sym (ap (λ l. byte ∷ (l ++ ys)) (ap (λ o. take (taken_behind settings t o (take n buf ++ ys)) (take n buf ++ ys)) known ∙ record_is ys)),
+            )
+
+      pub pad_from : RecordHasPad layout (take n buf) → IfSome old (λ bytes. HasPadBit settings t bytes)
+      unfolding HasPadBit
+      pad_from pad = at_bytes old mid new came gives.3 (λ ys. pad_told ys pad) where
+        at_bytes : (a m b : Option (List ℕ)) → Consumes a m (byte ∷ []) → Consumes m b (take n buf)
+            → ((ys : List ℕ) → RecordHasPad (layout_of settings t letter) (take (record_bytes (layout_of settings t letter) (take n buf ++ ys)) (take n buf ++ ys)))
+            → IfSome a (λ bytes. HasPadBit settings t bytes)
+        at_bytes None m b first more has = tt
+        at_bytes (Some xs) None b first more has = absurd first
+        at_bytes (Some xs) (Some ms) None first more has = absurd more
+        at_bytes (Some xs) (Some ms) (Some ys) first more has =
+            subst (HasPadBit settings t) (sym (first ∙ ap (λ l. byte ∷ l) more)) (subst (λ o. PadBehind settings t o (take n buf ++ ys)) (sym known) (has ys))

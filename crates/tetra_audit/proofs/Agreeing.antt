@@ -1,9 +1,7 @@
 -- A field whose tests all pass, and a field that is spelled as it is defined.
-use Rattle.std.proofs.Common.{◌≡◌, ◌≢◌, ℕ, ◌+◌, ◌-◌, ◌*◌, ◌/◌, ◌%◌, ◌<◌, ◌≤◌, Bool, true, false, cond, eqb, List, [], ◌∷◌, ◌++◌, length, take, drop, get_or, ℤ, Option, Some, None, arith, refl, sym, ap, subst, ◌∙◌, length-drop}
+use Rattle.std.proofs.Common.{◌≡◌, ℕ, ◌+◌, ◌-◌, ◌*◌, ◌/◌, ◌%◌, ◌<◌, ◌≤◌, Bool, true, false, cond, eqb, List, [], ◌∷◌, ◌++◌, length, get_or, ℤ, Option, Some, None, arith, refl, sym, ap, subst, ◌∙◌, length-drop}
 use Rattle.std.proofs.lemmas.Bool.Decides.{nat_tests}
 use Rattle.std.proofs.lemmas.List.{get_or-drop}
-use Rattle.std.proofs.lemmas.Slice.Eq.{bytes_eq-Decides}
-use Rattle.std.specs.Str.{bytes_eq}
 use Rattle.tetra_bits.proofs.Packing_lists.{packed_pads, packed_taken, pads_clean}
 use Rattle.tetra_bits.specs.Numbered.{length-numbered}
 use Rattle.tetra_bits.specs.Packed.{bytes_for, packed, packed_byte, HasPad}
@@ -17,20 +15,18 @@ use Rattle.tetra_puncture.proofs.Certificates.{accepted_is_certified}
 use Rattle.tetra_puncture.proofs.Shapes.{length-best_of}
 use Rattle.tetra_puncture.specs.Best.{best_of, message_metric}
 use Rattle.tetra_puncture.specs.Certified.{Fits, IsCertified}
-use Rattle.tetra_puncture.specs.Plan.{CodePlan}
 use Rattle.tetra_puncture.specs.Rules.{IsAccepted}
 use Rattle.tetra_puncture.specs.Spread.{spread_values}
 use Rattle.tetra_records.specs.Readings.{mark_byte, two_bytes, table_bytes}
 use Rattle.tetra_audit.specs.Agreement.{IsCertificate}
 use Rattle.tetra_audit.specs.Claims.{claimed_bits, claimed_table, has_pad, mark_part, metric_part, bits_part, table_part}
 use Rattle.tetra_audit.specs.Fields.{Code}
-use Rattle.tetra_audit.specs.Parts.{plain_why, coded_why}
-use Rattle.tetra_audit.specs.Verdicts.{first_of, fault_by, field_tests, pad_fault, bits_fault, cert_fault, metric_fault, mark_fault}
+use Rattle.tetra_audit.specs.Parts.{coded_why}
+use Rattle.tetra_audit.specs.Verdicts.{first_of, fault_by, pad_fault, cert_fault, metric_fault, mark_fault}
 use Rattle.tetra_audit.specs.declared.verdict.FieldWhy.{FieldWhy}
-use Rattle.tetra_audit.specs.declared.verdict.FieldWhy.TheVariants.{Pad, Bits, Cert, Metric, Mark as MarkFails}
 use Rattle.tetra_audit.proofs.Spelled.{table_back, table_again, rows_of_16, part_of_bits, part_of_table, parts_together, number_split}
 use Rattle.tetra_audit.proofs.Tables.{length-claimed_table}
-use Rattle.tetra_audit.proofs.Testing.{claimed_is, no_pad_found, pad_found, small_part, length-part}
+use Rattle.tetra_audit.proofs.Testing.{is_same, claimed_is, no_pad_found, pad_found, small_part, length-part}
 
 -- a field as it is spelled
 unfoldable pub spelled : Mark → ℕ → List Bool → List ℕ → List ℕ
@@ -63,9 +59,6 @@ module _ (mark : Mark) (metric : ℕ) (bits : List Bool) (table : List ℕ) (len
 
   pub pad_spelled : has_pad (bits_part len (spelled mark metric bits table)) len ≡ false
   pad_spelled = no_pad_found (bits_part len (spelled mark metric bits table)) len (packed_pads bits (bits_part len (spelled mark metric bits table)) len size (sym bits_spelled))
-
-pub is_same : (x y : ℕ) → x ≡ y → eqb x y ≡ true
-is_same x y e = grind (arith, nat_tests)
 
 pub first_none : (x : Option FieldWhy) (xs : List (Option FieldWhy)) → first_of (x ∷ xs) ≡ None → (x ≡ None) × (first_of xs ≡ None)
 first_none None xs e = (refl, e)
@@ -156,7 +149,7 @@ module _ (code : Code) (soft : List ℤ) (table : List (List ℕ)) where
 
 -- a field that passes is so spelled
 module _ (code : Code) (soft : List ℤ) (bytes : List ℕ) (fits : Fits code.plan soft (claimed_bits (bits_part (code.plan.steps - 4) bytes) (code.plan.steps - 4))) (small : (k : ℕ) → get_or bytes k 0 < 256)
-  (size : length bytes ≡ 3 + bytes_for (code.plan.steps - 4) + 32 * (code.plan.steps + 1)) (passes : Passes code soft bytes) where
+    (size : length bytes ≡ 3 + bytes_for (code.plan.steps - 4) + 32 * (code.plan.steps + 1)) (passes : Passes code soft bytes) where
   len : ℕ
   len = code.plan.steps - 4
 

@@ -1,5 +1,5 @@
 -- The codes of the fields.
-use Rattle.std.proofs.Common.{◌≡◌, ℕ, ◌+◌, ◌-◌, ◌<◌, ◌≤◌, Option, Some, None, arith, refl, subst}
+use Rattle.std.proofs.Common.{◌≡◌, ℕ, ◌+◌, ◌-◌, Some, arith, refl, subst}
 use Rattle.tetra_puncture.specs.Places.{two_thirds, IsTwoThirds}
 use Rattle.tetra_puncture.specs.Plan.{HasSizes, PlacesRise, PlacesLie}
 use Rattle.tetra_puncture.specs.TwoThirdsLaws.{two_thirds_sizes, two_thirds_rise, two_thirds_lie}

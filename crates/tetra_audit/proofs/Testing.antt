@@ -26,7 +26,7 @@ use Rattle.tetra_audit.specs.declared.verdict.FieldWhy.TheVariants.{Pad, Bits, C
 is_not : (x y : ℕ) → x ≢ y → eqb x y ≡ false
 is_not x y e = grind (arith, nat_tests)
 
-is_same : (x y : ℕ) → x ≡ y → eqb x y ≡ true
+pub is_same : (x y : ℕ) → x ≡ y → eqb x y ≡ true
 is_same x y e = grind (arith, nat_tests)
 
 not_same : (xs ys : List ℕ) → xs ≢ ys → bytes_eq xs ys ≡ false

@@ -26,7 +26,7 @@ use Rattle.tetra_audit.specs.declared.verdict.FieldWhy.TheVariants.{Pad, Bits, C
 is_not : (x y : ℕ) → x ≢ y → eqb x y ≡ false
 is_not x y e = grind (arith, nat_tests)
 
-is_same : (x y : ℕ) → x ≡ y → eqb x y ≡ true
+pub is_same : (x y : ℕ) → x ≡ y → eqb x y ≡ true
 is_same x y e = grind (arith, nat_tests)
 
 not_same : (xs ys : List ℕ) → xs ≢ ys → bytes_eq xs ys ≡ false
@@ -100,13 +100,13 @@ unfolding has_pad
 no_pad_found bytes len none = no_bit (bit_in bytes) len (8 * length bytes - len) (λ k from to. pads_clean bytes len none k from (omega arith))
 
 -- the bytes of a part are bytes
-small_part : (bytes : List ℕ) (n : ℕ) → ((q : ℕ) → get_or bytes q 0 < 256) → (q : ℕ) → get_or (take n (drop 3 bytes)) q 0 < 256
+pub small_part : (bytes : List ℕ) (n : ℕ) → ((q : ℕ) → get_or bytes q 0 < 256) → (q : ℕ) → get_or (take n (drop 3 bytes)) q 0 < 256
 small_part bytes n small q = elim (cases_lt q n) [
   | inl lt ↦ let e : get_or (take n (drop 3 bytes)) q 0 ≡ get_or bytes (3 + q) 0 = get_or-take n (drop 3 bytes) q 0 lt ∙ get_or-drop 3 bytes q 0 in omega (arith, small (3 + q))
   | inr le ↦ let e : get_or (take n (drop 3 bytes)) q 0 ≡ 0 = get_or_past (take n (drop 3 bytes)) q 0 (omega (arith, length-take n (drop 3 bytes))) in omega arith
 ]
 
-length-part : (bytes : List ℕ) (n : ℕ) → 3 + n ≤ length bytes → length (take n (drop 3 bytes)) ≡ n
+pub length-part : (bytes : List ℕ) (n : ℕ) → 3 + n ≤ length bytes → length (take n (drop 3 bytes)) ≡ n
 length-part bytes n h =
     let l : length (drop 3 bytes) ≡ length bytes - 3 = length-drop 3 bytes in
     length-take-le n (drop 3 bytes) (omega arith)

@@ -4,10 +4,12 @@
 
 mod claims;
 mod fields;
+mod laws;
 mod layouts;
 mod slots;
 mod verdict;
 
+pub use laws::agrees_exactly;
 pub use layouts::claim_len;
 pub use slots::{audit_slot, audit_slot_with};
 pub use verdict::{FieldWhy, SlotVerdict};

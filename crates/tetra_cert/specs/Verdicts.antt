@@ -1,9 +1,10 @@
 -- The verdict as a function of what is checked: the first place of all, in the order of step, state and rule, whose rule
 -- is not met. This project's own.
 use Prim.Native.Nat.{zero, suc}
-use Rattle.std.specs.Prelude.{ℕ, ◌+◌, ◌||◌, not, nat_eq, nat_lt, nat_le, Bool, true, false, List, [], ◌∷◌, ◌++◌, ℤ, Option, Some, None, find}
+use Rattle.std.specs.Prelude.{◌≡◌, ◌↔◌, ℕ, ◌+◌, ◌||◌, not, nat_eq, nat_lt, nat_le, Bool, true, false, List, [], ◌∷◌, ◌++◌, ℤ, Option, Some, None, find}
 use Rattle.tetra_bits.specs.Readings.{entry}
 use Rattle.tetra_puncture.specs.Plan.{CodePlan}
+use Rattle.tetra_puncture.specs.Rules.{IsAccepted}
 use Rattle.tetra_puncture.specs.Spread.{spread_values}
 use Rattle.tetra_puncture.specs.Trellis.{over_branch, bit_taken, state_passed}
 use Rattle.tetra_puncture.specs.declared.rule.Rule.{Rule}
@@ -59,3 +60,8 @@ verdict_at (Some place) = Refused place.step place.state place.rule
 -- the verdict on a message and a table over received values
 unfoldable pub verdict_of : CodePlan → List ℤ → List Bool → List (List ℕ) → Verdict
 verdict_of p r m table = verdict_at (find (fails p (spread_values p r) m table) (places_of_steps (p.steps + 1)))
+
+-- it is Accepted exactly where all rules hold
+abbrev pub AcceptedExactly : Type 0
+AcceptedExactly = (p : CodePlan) (r : List ℤ) (m : List Bool) (table : List (List ℕ)) →
+    (verdict_of p r m table ≡ Accepted) ↔ IsAccepted p (spread_values p r) m table

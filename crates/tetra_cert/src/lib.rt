@@ -4,12 +4,14 @@
 
 mod checking;
 mod lanes;
+mod laws;
 mod metrics;
 mod rules;
 mod steps;
 mod verdict;
 
 pub use checking::check;
+pub use laws::accepted_exactly;
 pub use metrics::metric;
 pub use tetra_puncture::Rule;
 pub use verdict::Verdict;

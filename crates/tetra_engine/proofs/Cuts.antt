@@ -1,6 +1,6 @@
 -- There is one cut, over any shape that is unambiguous.
-use Rattle.std.proofs.Common.{◌≡◌, ℕ, ◌+◌, ◌<◌, ◌≤◌, List, [], ◌∷◌, ◌++◌, length, refl, ap, sym, ◌∙◌, rules, arith, append_assoc, append-nil, subst, ◌-◌}
-use Rattle.tetra_engine.specs.Shapes.{Shape, AreInputs, spellings, NoInput, IsCut, IsUnambiguous, OneCut}
+use Rattle.std.proofs.Common.{◌≡◌, ℕ, ◌<◌, ◌≤◌, List, [], ◌∷◌, ◌++◌, length, refl, ap, sym, ◌∙◌, arith, append_assoc, append-nil, subst, ◌-◌}
+use Rattle.tetra_engine.specs.Shapes.{Shape, AreInputs, spellings, NoInput, IsUnambiguous, OneCut}
 
 -- what follows one front is the same
 pub behind : (a u v : List ℕ) → a ++ u ≡ a ++ v → u ≡ v

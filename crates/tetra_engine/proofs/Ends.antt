@@ -8,7 +8,8 @@ use Rattle.tetra_engine.specs.declared.status.Status.{Status}
 use Rattle.tetra_engine.specs.declared.status.Status.TheVariants.{Done, Refused, Words, TooLong, Input, Read, Write, NotBuilt}
 use Rattle.tetra_engine.specs.Shapes.{Shape, IsUnambiguous, IsDecided}
 use Rattle.tetra_engine.specs.Outcomes.{Closes, OneEnd}
-use Rattle.tetra_engine.specs.Below.{record_bytes, record_why, NoBlocks}
+use Rattle.tetra_records.specs.Records.{why as record_why, NoneBegins}
+use Rattle.tetra_records.specs.Spelling.{spelling}
 use Rattle.tetra_engine.specs.Encoding.{encoding, EncodingStops}
 use Rattle.tetra_engine.proofs.Cuts.{one_cut}
 
@@ -36,28 +37,28 @@ one_end {X} shape one decided max bytes end other a b =
 
 -- bytes begin with the record of blocks that fit
 BeginsWithBlocks : Settings → ℕ → List ℕ → Type 0
-BeginsWithBlocks settings n bytes = (blocks : SlotBlocks) × (rest : List ℕ) × Fits settings n blocks × (bytes ≡ record_bytes blocks ++ rest)
+BeginsWithBlocks settings n bytes = (blocks : SlotBlocks) × (rest : List ℕ) × Fits settings n blocks × (bytes ≡ spelling blocks ++ rest)
 
 -- the two ways in which encoding stops
 two_ways : (settings : Settings) (n : ℕ) (bytes : List ℕ) (status : Status) → EncodingStops settings n bytes status
-    → (NoBlocks settings n bytes × (status ≡ Input n (record_why settings n bytes))) ⊎ (BeginsWithBlocks settings n bytes × (status ≡ NotBuilt))
+    → (NoneBegins settings n bytes × (status ≡ Input n (record_why settings n bytes))) ⊎ (BeginsWithBlocks settings n bytes × (status ≡ NotBuilt))
 unfolding BeginsWithBlocks
 two_ways settings n bytes Done stops = absurd stops
 two_ways settings n bytes (Refused s c) stops = absurd stops
 two_ways settings n bytes (Words i w) stops = absurd stops
-two_ways settings n bytes (Input slot why) stops = inl (stops.1, ap (λ m. Input m why) stops.0 ∙ ap (Input n) stops.2)
+two_ways settings n bytes (Input slot why) stops = inl (stops.1, ap (λ m. Input m why) stops.0 ∙ ap (Input n) (sym stops.2))
 two_ways settings n bytes Read stops = absurd stops
 two_ways settings n bytes Write stops = absurd stops
 two_ways settings n bytes TooLong stops = absurd stops
 two_ways settings n bytes NotBuilt stops = inr (stops, refl)
 
-not_both_ways : (settings : Settings) (n : ℕ) (bytes : List ℕ) → NoBlocks settings n bytes → BeginsWithBlocks settings n bytes → ⊥
-unfolding BeginsWithBlocks
+not_both_ways : (settings : Settings) (n : ℕ) (bytes : List ℕ) → NoneBegins settings n bytes → BeginsWithBlocks settings n bytes → ⊥
+unfolding BeginsWithBlocks NoneBegins
 not_both_ways settings n bytes none (blocks, rest, fits, is) = none blocks rest fits is
 
 decide : (settings : Settings) (n : ℕ) (bytes : List ℕ) (s t : Status)
-    → (NoBlocks settings n bytes × (s ≡ Input n (record_why settings n bytes))) ⊎ (BeginsWithBlocks settings n bytes × (s ≡ NotBuilt))
-    → (NoBlocks settings n bytes × (t ≡ Input n (record_why settings n bytes))) ⊎ (BeginsWithBlocks settings n bytes × (t ≡ NotBuilt)) → s ≡ t
+    → (NoneBegins settings n bytes × (s ≡ Input n (record_why settings n bytes))) ⊎ (BeginsWithBlocks settings n bytes × (s ≡ NotBuilt))
+    → (NoneBegins settings n bytes × (t ≡ Input n (record_why settings n bytes))) ⊎ (BeginsWithBlocks settings n bytes × (t ≡ NotBuilt)) → s ≡ t
 decide settings n bytes s t (inl a) (inl b) = a.1 ∙ sym b.1
 decide settings n bytes s t (inl a) (inr b) = absurd (not_both_ways settings n bytes a.0 b.0)
 decide settings n bytes s t (inr a) (inl b) = absurd (not_both_ways settings n bytes b.0 a.0)

@@ -1,12 +1,12 @@
 -- What is left to read behind a front, over any shape.
-use Rattle.std.proofs.Common.{◌≡◌, ℕ, ◌+◌, ◌<◌, ◌≤◌, List, [], ◌∷◌, ◌++◌, length, take, refl, ap, sym, ◌∙◌, inr, arith, length-append, append_assoc, append-nil, None, Some, subst}
+use Rattle.std.proofs.Common.{◌≡◌, ℕ, ◌+◌, ◌<◌, List, ◌++◌, length, take, ap, sym, ◌∙◌, inr, arith, length-append, append_assoc, append-nil, None, Some, subst}
 use Rattle.std.specs.declared.option.Option.{Option}
-use Rattle.std.specs.Io.KnownBytes.{Consumes, IsAtEnd}
+use Rattle.std.specs.Io.KnownBytes.{Consumes}
 use Rattle.std.proofs.lemmas.List.{length-take}
 use Rattle.tetra_io.specs.Filling.{Fills, TakesFewer}
 use Rattle.tetra_io.specs.declared.filling.Filled.TheVariants.{Ended}
 use Rattle.tetra_engine.specs.declared.status.Status.TheVariants.{Input, NotBuilt}
-use Rattle.tetra_engine.specs.declared.temporary.RecordFault.TheVariants.{Truncated}
+use Rattle.tetra_records.specs.declared.faults.RecordFault.TheVariants.{Truncated}
 use Rattle.tetra_engine.specs.Shapes.{Shape, NoInput}
 use Rattle.tetra_engine.specs.Working.{NoneBegins, TakesPart}
 

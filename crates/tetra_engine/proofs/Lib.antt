@@ -5,3 +5,4 @@ pub mod Framed
 pub mod Audited
 pub mod Unambiguous
 pub mod Ends
+pub mod Encoded

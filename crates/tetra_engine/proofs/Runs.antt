@@ -10,9 +10,9 @@ use Rattle.tetra_io.specs.Filling.{TakesFewer, AddsFront}
 use Rattle.tetra_engine.specs.declared.status.End.{End}
 use Rattle.tetra_engine.specs.declared.status.Status.{Status}
 use Rattle.tetra_engine.specs.declared.status.Status.TheVariants.{Done, Refused, Words, TooLong, Input, Read, Write, NotBuilt}
-use Rattle.tetra_engine.specs.declared.temporary.RecordFault.TheVariants.{Truncated}
+use Rattle.tetra_records.specs.declared.faults.RecordFault.TheVariants.{Truncated}
 use Rattle.tetra_engine.specs.Shapes.{Shape, AreInputs, spellings, outputs, NoInput}
-use Rattle.tetra_engine.specs.Outcomes.{EndsBy, TookBefore, IsEnd, Closes, Outcome, IsPart, ReadFront, WriteFront, Came, Grows, IsFrontOfNext, ToldBoth}
+use Rattle.tetra_engine.specs.Outcomes.{EndsBy, TookBefore, IsEnd, Outcome, IsPart, ReadFront, WriteFront, Came, Grows, IsFrontOfNext, ToldBoth}
 use Rattle.tetra_engine.specs.declared.work.Stop.{Stop}
 use Rattle.tetra_engine.specs.declared.work.Stop.TheVariants.{End as EndStop, Bad, NotBuilt as NotBuiltStop, More, Fault}
 use Rattle.tetra_engine.specs.Working.{Ran, TakesPart, NoneBegins, StopGives, PastGives, end_by}

@@ -1,5 +1,5 @@
 -- The inputs of one slot whose bytes begin the same bytes are the same.
-use Rattle.std.proofs.Common.{◌≡◌, ℕ, List, ◌++◌, length, ap, sym, ◌∙◌, append_assoc, refl}
+use Rattle.std.proofs.Common.{◌≡◌, ◌++◌, length, ap, sym, ◌∙◌, append_assoc, refl}
 use Rattle.tetra_settings.specs.declared.types.Settings.{Settings}
 use Rattle.tetra_engine.specs.Auditing.{auditing, Claimed, front_at}
 use Rattle.tetra_audit.specs.Fields.{claim_length}

@@ -1,6 +1,5 @@
 -- What an auditor stands for.
-use Rattle.std.specs.Prelude.{◌≡◌, ◌<◌, ◌≤◌, ℕ, List, [], ◌∷◌, ◌++◌, length, take, All}
-use Rattle.tetra_bits.specs.Soft.{AllSoft}
+use Rattle.std.specs.Prelude.{◌≡◌, ◌<◌, ◌≤◌, List, [], ◌∷◌, ◌++◌, length, take, All}
 use Rattle.tetra_settings.specs.Validity.{IsValid}
 use Rattle.tetra_engine.specs.declared.auditor.Auditor.{Auditor}
 use Rattle.tetra_session.specs.Fronts.{IsFront}

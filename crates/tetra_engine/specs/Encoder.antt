@@ -5,7 +5,7 @@ use Rattle.tetra_settings.specs.Slots.{byte_of}
 use Rattle.tetra_settings.specs.Blocks.{Fits, letter_of}
 use Rattle.tetra_settings.specs.Validity.{IsValid}
 use Rattle.tetra_engine.specs.declared.encoder.Encoder.{Encoder}
-use Rattle.tetra_session.specs.Built.{IsBuilt, IsBuiltLetter}
+use Rattle.tetra_session.specs.Built.{IsBuiltLetter}
 use Rattle.tetra_session.specs.Sent.{SenderStands}
 
 -- it has read and written these blocks

@@ -1,9 +1,9 @@
 -- Slots of 510 bytes, and which of them are built.
-use Rattle.std.specs.Prelude.{◌≡◌, ℕ, List, length, take, map, ℤ, nat_lt, Bool, if◌then◌else◌}
+use Rattle.std.specs.Prelude.{ℕ, List, length, take, nat_lt, Bool, if◌then◌else◌}
 use Rattle.tetra_settings.specs.declared.types.Settings.{Settings}
 use Rattle.tetra_engine.specs.declared.status.Status.{Status}
 use Rattle.tetra_engine.specs.declared.status.Status.TheVariants.{Input, NotBuilt}
-use Rattle.tetra_engine.specs.declared.temporary.RecordFault.TheVariants.{Truncated}
+use Rattle.tetra_records.specs.declared.faults.RecordFault.TheVariants.{Truncated}
 use Rattle.tetra_session.specs.Built.{is_built_letter}
 use Rattle.tetra_session.specs.Heard.{slot_letter}
 use Rattle.tetra_engine.specs.Slots.{soft_values}

@@ -5,7 +5,6 @@ pub mod Lines
 pub mod Verdicts
 pub mod Slots
 pub mod Built
-pub mod Below
 pub mod Encoding
 pub mod Encoder
 pub mod Framing

@@ -2,8 +2,8 @@
 use Rattle.std.specs.Prelude.{ℕ, List, [], ◌++◌, codes, decimal}
 use Rattle.tetra_settings.specs.declared.types.WordWhy.{WordWhy}
 use Rattle.tetra_settings.specs.declared.types.WordWhy.TheVariants.{NoCommand, UnknownCommand, NotPair, UnknownKey, NotHere, Repeated, BadNumber, OutOfRange, UnknownValue, NotUplink}
-use Rattle.tetra_engine.specs.declared.temporary.RecordFault.{RecordFault}
-use Rattle.tetra_engine.specs.declared.temporary.RecordFault.TheVariants.{UnknownKind, WrongKind, PadBit, Truncated}
+use Rattle.tetra_records.specs.declared.faults.RecordFault.{RecordFault}
+use Rattle.tetra_records.specs.declared.faults.RecordFault.TheVariants.{UnknownKind, WrongKind, PadBit, Truncated}
 use Rattle.tetra_engine.specs.declared.status.Status.{Status}
 use Rattle.tetra_engine.specs.declared.status.Status.TheVariants.{Done, Refused, Words, Input, Read, Write, TooLong, NotBuilt}
 use Rattle.tetra_engine.specs.declared.status.End.{End}

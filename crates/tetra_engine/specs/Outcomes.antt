@@ -4,7 +4,7 @@ use Rattle.std.specs.Io.KnownBytes.{Appends}
 use Rattle.std.specs.declared.option.Option.{Option}
 use Rattle.tetra_engine.specs.declared.status.Status.{Status}
 use Rattle.tetra_engine.specs.declared.status.Status.TheVariants.{Done, Refused, TooLong, Input, Read, Write}
-use Rattle.tetra_engine.specs.declared.temporary.RecordFault.TheVariants.{Truncated}
+use Rattle.tetra_records.specs.declared.faults.RecordFault.TheVariants.{Truncated}
 use Rattle.tetra_engine.specs.declared.status.End.{End}
 use Rattle.tetra_engine.specs.Shapes.{Shape, AreInputs, spellings, outputs, NoInput, IsCut}
 

@@ -7,13 +7,13 @@ ghost use Rattle.tetra_engine.specs.Auditing.{auditing, Claimed};
 use crate::refusals::Refusals;
 use crate::slots::read_values;
 use crate::status::Status;
-use crate::temporary::RecordFault;
 use crate::verdicts::line_of_slot;
 use crate::work::{Stop, Work};
 use arrayvec::ArrayVec;
 use tetra_audit::{audit_slot_with, claim_len};
 use tetra_bits::Potentials;
 use tetra_io::{Filled, Sink, SinkFault, Source, fill, put_all};
+use tetra_records::RecordFault;
 use tetra_session::{Front, Receiver, is_built_letter};
 use tetra_settings::Settings;
 

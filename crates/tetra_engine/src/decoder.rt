@@ -8,11 +8,10 @@ ghost use Rattle.tetra_settings.specs.Readings.{IsWellFormed};
 
 use crate::slots::read_values;
 use crate::status::Status;
-use crate::temporary::RecordFault;
 use crate::work::{Stop, Work};
 use arrayvec::ArrayVec;
 use tetra_io::{Filled, Sink, SinkFault, Source, fill, put_all};
-use tetra_records::add_reading;
+use tetra_records::{RecordFault, add_reading};
 use tetra_session::{Receiver, is_built_letter};
 use tetra_settings::{Form, Settings, SlotReading};
 

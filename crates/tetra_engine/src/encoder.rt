@@ -7,9 +7,9 @@ ghost use Rattle.tetra_engine.specs.Encoding.{encoding};
 
 use crate::slots::write_values;
 use crate::status::Status;
-use crate::temporary::{NextFault, next_record};
 use crate::work::{Stop, Work};
 use tetra_io::{Sink, SinkFault, Source, put_all};
+use tetra_records::{NextFault, next_record};
 use tetra_session::{Sender, is_built_letter};
 use tetra_settings::{Settings, SlotBlocks};
 
@@ -43,7 +43,7 @@ impl Encoder {
 
 impl Work for Encoder {
     ghost use Rattle.tetra_engine.specs.Encoder.{EncoderStands, EncoderHolds};
-    ghost use Rattle.std.proofs.Common.{arith};
+    ghost use Rattle.tetra_engine.specs.Encoding.{spelling-some};
 
     ghost Input = { SlotBlocks };
 
@@ -55,7 +55,7 @@ impl Work for Encoder {
 
     ghost holds = { EncoderHolds };
 
-    ghost some = { λ settings before x fits. Prim.omega arith };
+    ghost some = { λ settings before x fits. spelling-some x };
 
     fn read<S: Source>(&mut self, src: &mut S, slot: u32) -> Result<(), Stop> {
         match next_record(src, &self.settings, slot) {

@@ -14,7 +14,6 @@ mod refusals;
 mod rehearsal;
 mod slots;
 mod status;
-mod temporary;
 mod texts;
 mod verdicts;
 mod work;

@@ -3,9 +3,9 @@ ghost use Rattle.std.specs.Prelude.{◌≡◌, ◌≤◌, ◌++◌, length, code
 ghost use Rattle.tetra_engine.specs.Lines.{line_of, exit_code_of, word_text, record_text};
 
 use crate::status::{End, Status};
-use crate::temporary::RecordFault;
 use crate::texts::{add, add_number};
 use arrayvec::ArrayString;
+use tetra_records::RecordFault;
 use tetra_settings::WordWhy;
 
 fn text_of(why: WordWhy) -> &'static str

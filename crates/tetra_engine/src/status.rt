@@ -1,5 +1,5 @@
 // How a run ends.
-use crate::temporary::RecordFault;
+use tetra_records::RecordFault;
 use tetra_settings::WordWhy;
 
 /// Why a run ended. This project's own.

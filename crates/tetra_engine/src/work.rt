@@ -9,8 +9,8 @@ ghost use Rattle.tetra_engine.specs.Outcomes.{EndsBy, TookBefore, IsEnd, Grows};
 ghost use Rattle.tetra_engine.specs.Working.{ReadGives, ReadRose, StopRose, PastGives, end_by};
 
 use crate::status::{End, Status};
-use crate::temporary::RecordFault;
 use tetra_io::{Filled, Sink, SinkFault, Source, fill};
+use tetra_records::RecordFault;
 use tetra_settings::Settings;
 
 /// Why no input came.

@@ -1,6 +1,5 @@
 -- What bytes that begin with a record are, and which begin with none.
-use Rattle.std.proofs.Common.{rules, ◌≡◌, ◌⊎◌, ℕ, ◌+◌, ◌≤◌, ◌<◌, List, [], ◌∷◌, ◌++◌, length, length-append, take, drop, Bool, true, false, refl, sym, ap, ◌∙◌, subst, inl, inr, Option, Some, None, arith, find, not, nat_eq}
-use Rattle.std.specs.Prelude.{IsTrue}
+use Rattle.std.proofs.Common.{◌≡◌, ℕ, ◌<◌, List, ◌∷◌, ◌++◌, length, length-append, take, true, false, refl, sym, ap, ◌∙◌, subst, Some, None, arith}
 use Rattle.std.proofs.Math.Seq.{take-append_seam}
 use Rattle.tetra_settings.specs.declared.types.Settings.{Settings}
 use Rattle.tetra_settings.specs.declared.slots.Letter.{Letter}
@@ -11,7 +10,7 @@ use Rattle.tetra_settings.specs.Blocks.{letter_of, Fits}
 use Rattle.tetra_records.specs.Spelling.{behind_letter, spelling}
 use Rattle.tetra_records.specs.Layouts.{record_bytes, RecordHasPad}
 use Rattle.tetra_records.specs.Records.{layout_of, allows_letter, NoneBegins, IsUnambiguous}
-use Rattle.tetra_records.proofs.Behind.{own_layout, behind_length, behind_clean, same_blocks}
+use Rattle.tetra_records.proofs.Behind.{behind_length, behind_clean, same_blocks}
 
 -- the byte of a letter is that letter's
 letter_found : (letter : Letter) → letter_of_byte (byte_of letter) ≡ Some letter

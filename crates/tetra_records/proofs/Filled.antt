@@ -1,5 +1,5 @@
 -- A buffer that is filled part by part with the bytes behind a letter.
-use Rattle.std.proofs.Common.{rules, ◌≡◌, ℕ, ◌+◌, ◌-◌, ◌≤◌, ◌<◌, List, [], ◌∷◌, ◌++◌, length, length-append, length-take-le, length-take, length-drop, take, drop, get_or, get_or-take, Bool, refl, sym, ap, ◌∙◌, subst, Option, Some, None, Ok, arith, drop_at, append_assoc, append-nil}
+use Rattle.std.proofs.Common.{◌≡◌, ℕ, ◌+◌, ◌-◌, ◌≤◌, ◌<◌, List, ◌++◌, length, length-append, length-take-le, length-take, length-drop, take, drop, get_or-take, Bool, refl, sym, ap, ◌∙◌, subst, Option, Some, None, Ok, arith, drop_at, append_assoc, append-nil}
 use Rattle.std.specs.Prelude.{slice_index, IfSome}
 use Rattle.std.specs.Io.KnownBytes.{Consumes, IsAtEnd}
 use Rattle.std.proofs.KnownBytes.{Consumes-trans}
@@ -7,13 +7,11 @@ use Rattle.std.proofs.Math.ListN.{get_or-append}
 use Rattle.std.proofs.lemmas.Slice.{take-put_mid}
 use borrow.Rule.Slice.PartMut.{put_mid}
 use Rattle.tetra_io.specs.Filling.{TakesFewer}
-use Rattle.tetra_settings.specs.declared.types.Dir.{Dir}
-use Rattle.tetra_settings.specs.declared.types.Mode.{Mode}
 use Rattle.tetra_settings.specs.declared.slots.Letter.{Letter}
 use Rattle.tetra_settings.specs.declared.slots.Letter.TheVariants.{F, H, S, T, P, Q, C}
 use Rattle.tetra_settings.specs.Blocks.{field_bits}
 use Rattle.tetra_records.specs.declared.parsing.Layout.{Layout}
-use Rattle.tetra_records.specs.Layouts.{access_bytes, mask_bytes, head_bytes, first_sent, second_sent, mask_behind, mask_in, bits_in, fields_bytes, record_bytes}
+use Rattle.tetra_records.specs.Layouts.{access_bytes, mask_bytes, head_bytes, first_sent, second_sent, mask_behind, bits_in, fields_bytes, record_bytes}
 use Rattle.tetra_records.specs.Buffers.{TakesLess, BehindGives}
 
 pub part_filled : (from to : ℕ) (xs ys : List ℕ) → from ≤ to → to ≤ length xs → length ys ≡ to - from → take to (put_mid from (to - from) xs ys) ≡ take from xs ++ ys

@@ -1,16 +1,15 @@
 -- What a letter and the bytes behind it say of the told bytes that they came from.
-use Rattle.std.proofs.Common.{rules, ◌≡◌, ◌⊎◌, ℕ, ◌+◌, ◌≤◌, ◌<◌, List, [], ◌∷◌, ◌++◌, length, length-append, take, drop, Bool, true, false, not, nat_le, refl, sym, ap, ◌∙◌, subst, inl, inr, Option, Some, None, Result, Ok, Err, if◌then◌else◌, arith, length-take, find, nat_eq}
-use Rattle.std.specs.Prelude.{slice_index, IfSome, IsTrue}
-use Rattle.std.specs.Io.KnownBytes.{Consumes, IsAtEnd}
+use Rattle.std.proofs.Common.{◌≡◌, ℕ, ◌≤◌, ◌<◌, List, [], ◌∷◌, ◌++◌, length, length-append, take, Bool, true, false, nat_le, refl, sym, ap, ◌∙◌, subst, inr, Option, Some, None, Ok, Err, arith, length-take, find, nat_eq}
+use Rattle.std.specs.Prelude.{slice_index, IfSome}
+use Rattle.std.specs.Io.KnownBytes.{Consumes}
 use Rattle.std.proofs.KnownBytes.{Consumes-trans}
 use Rattle.std.proofs.Math.Seq.{take-append_seam}
 use Rattle.std.proofs.lemmas.Bool.{eqb-true}
 use Rattle.tetra_settings.specs.declared.types.Settings.{Settings}
 use Rattle.tetra_settings.specs.declared.slots.Letter.{Letter}
 use Rattle.tetra_settings.specs.declared.blocks.SlotBlocks.{SlotBlocks}
-use Rattle.tetra_settings.specs.Slots.{mode_of, byte_of, letters, letter_of_byte}
+use Rattle.tetra_settings.specs.Slots.{byte_of, letters, letter_of_byte}
 use Rattle.tetra_settings.specs.Blocks.{letter_of, HasLengths, FitsAccess, Fits}
-use Rattle.tetra_records.specs.declared.faults.RecordFault.{RecordFault}
 use Rattle.tetra_records.specs.declared.faults.RecordFault.TheVariants.{UnknownKind, WrongKind, PadBit, Truncated}
 use Rattle.tetra_records.specs.declared.faults.NextFault.{NextFault}
 use Rattle.tetra_records.specs.declared.faults.NextFault.TheVariants.{Source, Bad}
@@ -18,7 +17,7 @@ use Rattle.tetra_records.specs.declared.parsing.Layout.{Layout}
 use Rattle.tetra_records.specs.Spelling.{behind_letter, spelling}
 use Rattle.tetra_records.specs.Layouts.{head_bytes, record_bytes, IsOf, RecordHasPad}
 use Rattle.tetra_records.specs.Buffers.{TakesLess, BehindGives}
-use Rattle.tetra_records.specs.Records.{layout_of, allows_letter, why, why_behind, NoneBegins, taken, taken_behind, BeginsNone, TakesPart, RecordGives, PadBehind, HasPadBit}
+use Rattle.tetra_records.specs.Records.{layout_of, allows_letter, why, why_behind, taken, taken_behind, BeginsNone, TakesPart, RecordGives, PadBehind, HasPadBit}
 use Rattle.tetra_records.proofs.Beginnings.{unknown_begins, wrong_begins, short_begins, padded_begins}
 use Rattle.tetra_records.proofs.Filled.{size_kept}
 

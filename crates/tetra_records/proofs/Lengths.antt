@@ -1,5 +1,5 @@
 -- How long the parts of a reading record are.
-use Rattle.std.proofs.Common.{◌≡◌, ℕ, ◌+◌, ◌*◌, ◌≤◌, ◌⊎◌, inl, inr, Bool, List, [], ◌∷◌, length, map, drop, take, get_or, ◌++◌, ◌<◌, arith, refl, ap, sym, ◌∙◌, None, Some}
+use Rattle.std.proofs.Common.{◌≡◌, ℕ, ◌+◌, ◌≤◌, inl, inr, Bool, List, [], ◌∷◌, length, map, drop, take, get_or, ◌++◌, ◌<◌, arith, refl, ap, sym, ◌∙◌, None, Some}
 use Rattle.std.specs.List.{flat_map}
 use Rattle.std.proofs.Math.Seq.{drop-cons}
 use Rattle.std.proofs.lemmas.List.{flat_map_more, take_more}
@@ -9,11 +9,10 @@ use Rattle.tetra_bits.specs.Numbered.{length-numbered}
 use Rattle.tetra_bits.specs.Packed.{packed, packed_byte, bytes_for}
 use Rattle.tetra_bits.specs.declared.reading.Mark.{Mark}
 use Rattle.tetra_bits.specs.declared.reading.Mark.TheVariants.{Good, Bad, Unchecked, NotYet}
-use Rattle.tetra_settings.specs.Readings.{message_bits, certificate_rows, rows_of, HasRows, IsRow, IsReadLetter, names_of, traffic_name}
+use Rattle.tetra_settings.specs.Readings.{certificate_rows, rows_of, HasRows, IsRow, IsReadLetter, names_of}
 use Rattle.tetra_settings.specs.Blocks.{IsTrafficMode}
 use Rattle.tetra_settings.specs.declared.readings.Field.{Field}
 use Rattle.tetra_settings.specs.declared.readings.FieldName.{FieldName}
-use Rattle.tetra_settings.specs.declared.readings.FieldName.TheVariants.{Aach}
 use Rattle.tetra_settings.specs.declared.slots.Letter.{Letter}
 use Rattle.tetra_settings.specs.declared.slots.Letter.TheVariants.{F, H, S, T, P, Q, C}
 use Rattle.tetra_settings.specs.declared.types.Mode.{Mode}

@@ -1,17 +1,13 @@
 -- Blocks that are made of the parts of a record.
-use Rattle.std.proofs.Common.{rules, ◌≡◌, ◌⊎◌, ℕ, ◌+◌, ◌-◌, ◌*◌, ◌≤◌, ◌<◌, List, [], ◌∷◌, ◌++◌, length, take, drop, get_or, Bool, true, false, refl, sym, ap, ◌∙◌, subst, inl, inr, Option, Some, None, append_assoc, append-nil, arith, suc}
-use Rattle.std.specs.Prelude.{slice_index, unwrap_or, is_some, if◌then◌else◌}
+use Rattle.std.proofs.Common.{◌≡◌, ℕ, ◌+◌, ◌-◌, ◌≤◌, ◌<◌, List, [], ◌∷◌, ◌++◌, length, take, drop, get_or, Bool, true, false, refl, sym, ap, ◌∙◌, subst, inl, inr, Option, arith}
+use Rattle.std.specs.Prelude.{slice_index}
 use Rattle.std.proofs.Math.Seq.{drop-cons}
 use Rattle.std.proofs.lemmas.List.{take-append-drop, take_rest}
 use lib.Seq.{take-add}
-use Rattle.tetra_bits.specs.Packed.{packed, bytes_for, HasPad}
-use Rattle.tetra_bits.specs.Sums.{bit_number}
-use Rattle.tetra_settings.specs.declared.types.Dir.{Dir}
 use Rattle.tetra_settings.specs.declared.types.Mode.{Mode}
 use Rattle.tetra_settings.specs.declared.slots.Letter.{Letter}
 use Rattle.tetra_settings.specs.declared.slots.Letter.TheVariants.{F, H, S, T, P, Q, C}
 use Rattle.tetra_settings.specs.declared.blocks.Body.{Body}
-use Rattle.tetra_settings.specs.declared.blocks.SlotBlocks.{SlotBlocks}
 use Rattle.tetra_settings.specs.Blocks.{letter_of, fields_of, field_bits, body_of, Lengths, HasLengths, FitsAccess}
 use Rattle.tetra_records.specs.declared.parsing.Layout.{Layout}
 use Rattle.tetra_records.specs.Spelling.{access_spelling, mask_spelling, fields_spelling, behind_letter}

@@ -1,5 +1,5 @@
 -- Pad bits of fields.
-use Rattle.std.proofs.Common.{rules, ◌≡◌, ◌⊎◌, ℕ, List, [], ◌∷◌, take, drop, length, inl, inr, subst, sym, ap, ◌∙◌}
+use Rattle.std.proofs.Common.{◌≡◌, ℕ, List, [], ◌∷◌, take, drop, length, inl, inr, subst, sym, ap, ◌∙◌}
 use Rattle.std.proofs.Math.Seq.{take-length}
 use Rattle.tetra_bits.specs.Packed.{bytes_for, HasPad}
 use Rattle.tetra_records.specs.Layouts.{FieldsHavePad}

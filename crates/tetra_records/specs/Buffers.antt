@@ -1,6 +1,6 @@
 -- What was read into a buffer of the bytes behind a letter.
-use Rattle.std.specs.Prelude.{ℕ, ◌≡◌, ◌+◌, ◌<◌, ◌≤◌, List, ◌++◌, length, take, ⊤, None, Some, Ok, Err, Result, IfSome}
-use Rattle.std.specs.Io.KnownBytes.{Consumes, IsAtEnd}
+use Rattle.std.specs.Prelude.{ℕ, ◌≡◌, ◌<◌, ◌≤◌, List, ◌++◌, length, take, ⊤, None, Some, Ok, Err, Result, IfSome}
+use Rattle.std.specs.Io.KnownBytes.{Consumes}
 use Rattle.std.specs.declared.option.Option.{Option}
 use Rattle.tetra_io.specs.Streams.{Rose}
 use Rattle.tetra_records.specs.declared.faults.RecordFault.TheVariants.{Truncated}

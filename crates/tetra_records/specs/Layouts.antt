@@ -4,7 +4,6 @@ use Rattle.tetra_bits.specs.Sums.{bit_number}
 use Rattle.tetra_bits.specs.Packed.{bytes_for, HasPad}
 use Rattle.tetra_settings.specs.declared.types.Dir.{Dir}
 use Rattle.tetra_settings.specs.declared.types.Dir.TheVariants.{Dl, Ul}
-use Rattle.tetra_settings.specs.declared.types.Mode.{Mode}
 use Rattle.tetra_settings.specs.declared.slots.Letter.{Letter}
 use Rattle.tetra_settings.specs.declared.slots.Letter.TheVariants.{C}
 use Rattle.tetra_settings.specs.declared.blocks.SlotBlocks.{SlotBlocks}

@@ -1,6 +1,6 @@
 -- How a reading is spelled. Numbers of two bytes have the higher byte first. This project's own.
 use Rattle.std.specs.Prelude.{ℕ, ◌≤◌, ◌/◌, ◌%◌, List, [], ◌∷◌, ◌++◌, None, Some}
-use Rattle.std.specs.List.{All, flat_map}
+use Rattle.std.specs.List.{flat_map}
 use Rattle.std.specs.declared.option.Option.{Option}
 use Rattle.tetra_bits.specs.Packed.{packed}
 use Rattle.tetra_bits.specs.Readings.{entry}

@@ -1,5 +1,5 @@
 -- What bytes say of the record of a slot.
-use Rattle.std.specs.Prelude.{ℕ, ◌≡◌, ◌⊎◌, ◌+◌, ◌<◌, nat_le, Bool, true, false, not, if◌then◌else◌, List, [], ◌∷◌, ◌++◌, length, take, ⊤, None, Some, Ok, Err, Result, IfSome}
+use Rattle.std.specs.Prelude.{ℕ, ◌≡◌, ◌⊎◌, ◌<◌, nat_le, Bool, not, if◌then◌else◌, List, [], ◌∷◌, ◌++◌, length, take, ⊤, None, Some, Ok, Err, Result, IfSome}
 use Rattle.std.specs.Io.KnownBytes.{Consumes, IsAtEnd}
 use Rattle.std.specs.declared.option.Option.{Option}
 use Rattle.tetra_io.specs.Streams.{Rose}
@@ -66,7 +66,7 @@ TakesPart settings t (Some bytes) (Some rest) = (part : List ℕ) × (bytes ≡ 
 
 -- what reading the record of slot t gives
 abbrev pub RecordGives : Settings → ℕ → Option (List ℕ) → Option (List ℕ) → Result (Option SlotBlocks) NextFault → Type 0
-RecordGives settings t old new (Ok None) = IsAtEnd old × Consumes old new []
+RecordGives settings t old new (Ok None) = IsAtEnd old × IsAtEnd new × Consumes old new []
 RecordGives settings t old new (Ok (Some blocks)) = Fits settings t blocks × Consumes old new (spelling blocks)
 RecordGives settings t old new (Err (Source fault)) = TakesPart settings t old new
 RecordGives settings t old new (Err (Bad fault)) = BeginsNone settings t fault old new

@@ -13,3 +13,6 @@ pub use laws::records_are_unambiguous;
 pub use readings::{add_reading, reading_bytes};
 pub use records::next_record;
 pub use spelling::block_bytes;
+
+#[cfg(test)]
+mod tests;

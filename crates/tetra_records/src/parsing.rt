@@ -125,7 +125,7 @@ fn read_fields(bytes: &[u8], a: usize, b: usize, c: usize) -> Result<Fields, Bad
 pub fn parse(layout: Layout, bytes: &[u8]) -> Result<SlotBlocks, BadPad>
     requires head { head_bytes layout ≤ length bytes.now }
     requires size { length (drop (head_bytes layout) bytes.now) ≡ fields_bytes (bits_in layout bytes.now) }
-    ensures blocks { IfOk result (λ blocks. IsOf layout blocks × (behind_letter blocks ≡ bytes.now)) }
+    ensures made { IfOk result (λ blocks. IsOf layout blocks × (behind_letter blocks ≡ bytes.now)) }
     ensures pad { MatchResult result (λ _. RecordHasPad layout bytes.now → ⊥) (λ _. RecordHasPad layout bytes.now) }
 {
     let Ok(access) = read_access(layout.dir, bytes) else {

@@ -1,4 +1,4 @@
-use Rattle.std.proofs.Common.{rules, ◌≡◌, arith, [], ◌∷◌, ◌++◌, subst, refl, sym, ap, ◌∙◌, OnOk, OnErr, Ok, Err}
+use Rattle.std.proofs.Common.{rules, ◌≡◌, arith, [], ◌∷◌, ◌++◌, subst, refl, sym, ◌∙◌, OnOk, OnErr, Ok, Err}
 use Rattle.std.specs.Io.KnownBytes.{Appends}
 use Rattle.tetra_io.specs.Filling.{AddsFront}
 use Rattle.tetra_engine.specs.Working.{ReadGives}

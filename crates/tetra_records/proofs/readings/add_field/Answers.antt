@@ -1,8 +1,6 @@
-use Rattle.std.proofs.Common.{rules, ◌≡◌, ◌≤◌, ◌+◌, ◌*◌, ◌++◌, length, arith, ap, ◌∙◌}
-use Rattle.arrayvec.specs.ArrayVec.{array_vec_len}
-use Rattle.tetra_bits.specs.Packed.{packed, bytes_for}
+use Rattle.std.proofs.Common.{rules, ◌≡◌, ◌≤◌, length, arith, ap, ◌∙◌}
+use Rattle.tetra_bits.specs.Packed.{bytes_for}
 use Rattle.tetra_settings.specs.Readings.{message_bits, certificate_rows}
-use Rattle.tetra_records.specs.Readings.{field_bytes, table_bytes}
 use Rattle.tetra_records.proofs.Lengths.{length-packed, table_fits}
 use Rattle.tetra_records.proofs.readings.add_field.Goals as goal
 

@@ -1,12 +1,10 @@
-use Rattle.std.proofs.Common.{rules, ◌≡◌, ◌≤◌, ◌<◌, ◌+◌, ◌++◌, ◌∷◌, [], length, take, drop, get_or, arith, ap, sym, subst, ◌∙◌, append_assoc, append-nil}
+use Rattle.std.proofs.Common.{rules, ◌≡◌, ◌≤◌, ◌<◌, ◌++◌, ◌∷◌, [], length, get_or, arith, ap, sym, subst, ◌∙◌, append_assoc, append-nil}
 use Rattle.std.specs.List.{flat_map}
 use Rattle.std.proofs.lemmas.List.{take_all}
 use Rattle.std.proofs.lemmas.List.Elements.{All-get_or}
-use Rattle.arrayvec.specs.ArrayVec.{array_vec_len}
 use Rattle.tetra_settings.specs.Readings.{IsField}
 use Rattle.tetra_records.specs.Readings.{IsSmall, field_bytes, reading_spelling}
-use Rattle.tetra_records.specs.Rooms.{room_of}
-use Rattle.tetra_records.proofs.Lengths.{rooms, rooms_left, rooms_by_names, row_fits, rooms_from, spelled_more}
+use Rattle.tetra_records.proofs.Lengths.{rooms_by_names, row_fits, rooms_from, spelled_more}
 use Rattle.tetra_records.proofs.readings.add_reading.Goals as goal
 
 pub loop-field-init : goal.loop-field-init

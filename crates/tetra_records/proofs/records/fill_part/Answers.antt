@@ -1,6 +1,6 @@
-use Rattle.std.proofs.Common.{rules, arith, sym, ap, ◌∙◌, ◌≡◌, ◌≤◌, ◌-◌, ◌++◌, subst, take, length}
+use Rattle.std.proofs.Common.{rules, arith, sym, ap, ◌∙◌, ◌≡◌, ◌-◌, ◌++◌, subst, take, length}
 use Rattle.tetra_io.specs.Filling.{Fills}
-use Rattle.tetra_records.proofs.Filled.{part_filled, part_is, size_kept, head_small}
+use Rattle.tetra_records.proofs.Filled.{part_filled, part_is}
 use Rattle.tetra_records.proofs.records.fill_part.Goals as goal
 
 pub returns-clause-bytes : goal.returns-clause-bytes

@@ -1,13 +1,12 @@
-use Rattle.std.proofs.Common.{rules, arith, ◌≡◌, ◌<◌, ◌∙◌, ap, sym, subst, true, false, length, ◌++◌, ◌∷◌, []}
+use Rattle.std.proofs.Common.{rules, arith, ◌≡◌, ◌∙◌, ap, sym, subst, true, false, length, ◌++◌, ◌∷◌, []}
 use Rattle.tetra_io.specs.Filling.{TakesFewer}
-use Rattle.std.specs.Io.KnownBytes.{Consumes}
 use Rattle.std.proofs.KnownBytes.{Consumes-trans}
 use Rattle.tetra_session.specs.Heard.{ReceiverStands, slot_letter, slot_front}
 use Rattle.tetra_session.specs.Built.{is_built_letter}
 use Rattle.tetra_audit.specs.Fields.{claim_length}
 use Rattle.tetra_engine.specs.Framing.{is_built_slot}
-use Rattle.tetra_engine.specs.Auditing.{auditing, slots_of, front_at}
-use Rattle.tetra_engine.proofs.Fronts.{ended_behind, fault_behind, IsShort}
+use Rattle.tetra_engine.specs.Auditing.{auditing, slots_of}
+use Rattle.tetra_engine.proofs.Fronts.{ended_behind, fault_behind}
 use Rattle.tetra_engine.proofs.Framed.{take_front}
 use Rattle.tetra_engine.proofs.Audited.{unbuilt_claimed, letter_same, short_claim, front_audited, refused_few, counts_number}
 use Rattle.tetra_engine.proofs.auditor.AuditorWork.read.Goals as goal

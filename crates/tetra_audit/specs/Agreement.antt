@@ -1,0 +1,60 @@
+-- What agreement says: the claim spells the defined readings, but that other tables that the rules accept may stand in place
+-- of the certificates. So each byte outside the certificates is the defined one. This project's own.
+use Rattle.std.specs.Prelude.{◌≡◌, ◌↔◌, ℕ, ◌+◌, ◌<◌, List, [], ◌∷◌, length, slice_index, None, Some, ℤ}
+use Rattle.std.specs.List.{All}
+use Rattle.std.specs.declared.option.Option.{Option}
+use Rattle.tetra_puncture.specs.Best.{best_of}
+use Rattle.tetra_puncture.specs.Rules.{IsAccepted}
+use Rattle.tetra_puncture.specs.Spread.{spread_values}
+use Rattle.tetra_records.specs.Readings.{reading_spelling}
+use Rattle.tetra_rm.specs.declared.table.Rows.{Rows}
+use Rattle.tetra_session.specs.Fronts.{IsFront}
+use Rattle.tetra_session.specs.declared.front.FrontField.{FrontField}
+use Rattle.tetra_session.specs.declared.front.Front.{Front}
+use Rattle.tetra_settings.specs.declared.readings.Field.{Field}
+use Rattle.tetra_settings.specs.declared.types.Form.TheVariants.{Audit}
+use Rattle.tetra_audit.specs.Fields.{Code, code_of, field_reading, IsAudited, claim_length}
+use Rattle.tetra_audit.specs.Verdicts.{slot_verdict}
+use Rattle.tetra_audit.specs.declared.verdict.SlotVerdict.TheVariants.{Agrees}
+
+-- a table of a row of 16 before each step and one behind the last, which the rules accept beside the first-least message
+pub record IsCertificate (code : Code) (soft : List ℤ) (table : List (List ℕ)) : Type 0 where
+  pub rows : length table ≡ code.plan.steps + 1
+  pub states : All (λ row. length row ≡ 16) table
+  pub accepted : IsAccepted code.plan (spread_values code.plan soft) (best_of code.plan soft) table
+
+-- such a table where the field has a code and values, and else none
+abbrev pub AreCertified : Option Code → Option (List ℤ) → Option (List (List ℕ)) → Type 0
+AreCertified (Some code) (Some soft) (Some table) = IsCertificate code soft table
+AreCertified (Some code) (Some soft) None = ⊥
+AreCertified code values None = Unit {0}
+AreCertified code values (Some table) = ⊥
+
+-- the reading is the defined one, but for its potentials
+pub record IsRight (field : FrontField) (claimed : Field) : Type 0 where
+  pub name : claimed.name ≡ field.name
+  pub mark : claimed.reading.mark ≡ (field_reading field).mark
+  pub metric : claimed.reading.metric ≡ (field_reading field).metric
+  pub bits : claimed.reading.bits ≡ (field_reading field).bits
+  pub potentials : AreCertified (code_of field.name) field.soft claimed.reading.potentials
+
+abbrev pub AreRight : List FrontField → List Field → Type 0
+AreRight [] [] = Unit {0}
+AreRight [] (claimed ∷ more) = ⊥
+AreRight (field ∷ fields) [] = ⊥
+AreRight (field ∷ fields) (claimed ∷ more) = IsRight field claimed × AreRight fields more
+
+-- the claim spells right readings of all fields behind the letter
+pub record IsRightClaim (front : Front) (claim : List ℕ) : Type 0 where
+  pub claimed : List Field
+  pub right : AreRight front.fields.items claimed
+  pub spelled : claim ≡ reading_spelling Audit (record { letter = front.letter; fields = record { items = claimed } })
+
+-- numbers that are bytes
+abbrev pub AreBytes : List ℕ → Type 0
+AreBytes bytes = (k : ℕ) → slice_index bytes k < 256
+
+-- the verdict is Agrees exactly on such claims
+abbrev pub AgreesExactly : Type 0
+AgreesExactly = (rows : Rows) (front : Front) (claim : List ℕ) → IsFront front → All IsAudited front.fields.items → AreBytes claim → length claim ≡ claim_length front →
+    (slot_verdict rows front claim ≡ Agrees) ↔ IsRightClaim front claim

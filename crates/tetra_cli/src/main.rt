@@ -1,0 +1,70 @@
+//! The program: hands its words, standard input and standard output to a run.
+//!
+//! It ends with the number that belongs to the end of the run, with 7 where there is no memory for the
+//! words, and with 9 where the system does not give them for another cause.
+#![tactic(auto)]
+
+use std::env;
+use std::env::Env;
+use std::io::ErrorKind;
+use std::process::ExitCode;
+use tetra_engine::{exit_code, line, run};
+use tetra_io::{StdSink, StdSource};
+
+/// Why there are no words.
+#[derive(Clone, Copy, PartialEq, Eq)]
+enum NoWords {
+    Memory,
+    System,
+}
+
+impl NoWords {
+    fn text(self) -> &'static str {
+        match self {
+            NoWords::Memory => "no memory for the words",
+            NoWords::System => "no words given",
+        }
+    }
+
+    fn exit_code(self) -> u8 {
+        match self {
+            NoWords::Memory => 7,
+            NoWords::System => 9,
+        }
+    }
+}
+
+/// The words behind the program's name.
+fn collect<R: AllocGlobal + Env>(rt: &R) -> Result<Vec<String>, NoWords> {
+    let mut given = match env::args(rt) {
+        Ok(given) => given,
+        Err(error) if error.kind() == ErrorKind::OutOfMemory => return Err(NoWords::Memory),
+        Err(_) => return Err(NoWords::System),
+    };
+    let _name = given.next();
+    let mut words = Vec::new(rt.alloc());
+    for word in given {
+        if words.push(word).is_err() {
+            return Err(NoWords::Memory);
+        }
+    }
+    Ok(words)
+}
+
+fn main(rt: HostRuntime) -> ExitCode {
+    let words = match collect(&rt) {
+        Ok(words) => words,
+        Err(cause) => {
+            let _ = eprintln!(rt; "{}", cause.text());
+            return ExitCode::from(cause.exit_code());
+        }
+    };
+    let mut src = StdSource::new(rt.stdin());
+    let mut sink = StdSink::new(rt.stdout());
+    let end = run(&words, &mut src, &mut sink);
+    let text = line(&end);
+    if !text.is_empty() {
+        let _ = eprintln!(rt; "{}", text.as_str());
+    }
+    ExitCode::from(exit_code(&end))
+}

@@ -28,13 +28,6 @@ pub fn bytes(alloc: Global, text: &str) -> Result<Vec<u8>, Fail> {
     Ok(all)
 }
 
-/// Turns the bits of a byte that are set in a mask.
-pub fn turn_bits(all: &mut [u8], place: usize, mask: u8) {
-    if let Some(byte) = all.get_mut(place) {
-        *byte ^= mask;
-    }
-}
-
 fn turn(all: &mut [u8], position: usize) {
     if let Some(byte) = all.get_mut(position.saturating_sub(1)) {
         *byte = byte.wrapping_neg();

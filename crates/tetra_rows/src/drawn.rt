@@ -1,6 +1,5 @@
 // No clause says that the code, the certificates and the verdicts are those of the plain sums and rules. Blocks of drawn
 // bits are sent and judged both ways.
-use crate::bytes::turn_bits;
 use crate::plain::{code, rules};
 use crate::runs::{SURE, run_over};
 use rand_core::utils::NextWord;
@@ -25,6 +24,12 @@ fn bit(packed: &[u8], k: usize) -> bool {
     packed
         .get(k / 8)
         .is_some_and(|byte| byte >> (7 - k % 8) & 1 == 1)
+}
+
+fn turn(file: &mut [u8], place: usize, bits: u8) {
+    if let Some(byte) = file.get_mut(place) {
+        *byte ^= bits;
+    }
 }
 
 fn signalling(packed: &[u8], scrambling: &[bool; 464]) -> [u8; 510] {
@@ -136,9 +141,9 @@ fn judged_as_by_rules(rt: HostRuntime) -> Result<(), Fail> {
     for place in 0..9_798usize {
         for turned in [0x01, 0x80, 0xFF] {
             if is_turned(place) {
-                turn_bits(&mut file, place, turned);
+                turn(&mut file, place, turned);
                 agrees(&rt, &file, &scrambling, place)?;
-                turn_bits(&mut file, place, turned);
+                turn(&mut file, place, turned);
             }
         }
     }

@@ -11,8 +11,6 @@ mod drawn;
 #[cfg(test)]
 mod faults;
 #[cfg(test)]
-mod lengths;
-#[cfg(test)]
 mod plain;
 #[cfg(test)]
 mod rows;

@@ -40,15 +40,6 @@ pub struct Outcome {
     pub end: String,
 }
 
-/// The words of a line.
-pub fn words_of(alloc: Global, line: &str) -> Result<Vec<String>, AllocError> {
-    let mut all = Vec::new(alloc);
-    for word in line.split_whitespace() {
-        all.push(String::from_str(alloc, word)?)?;
-    }
-    Ok(all)
-}
-
 /// A run over ends in memory, the sink with room for so many bytes.
 pub fn run_over(
     alloc: Global,
@@ -57,7 +48,10 @@ pub fn run_over(
     ends: Ends,
     room: usize,
 ) -> Result<Outcome, Fail> {
-    let all = words_of(alloc, words)?;
+    let mut all = Vec::new(alloc);
+    for word in words.split_whitespace() {
+        all.push(String::from_str(alloc, word)?)?;
+    }
     let mut room = vec![in alloc; 0; room]?;
     let (read_pieces, write_pieces) = ([ends.read_piece], [ends.write_piece]);
     let (read_fails, write_fails) = ([ends.read_fails], [ends.write_fails]);

@@ -38,7 +38,8 @@ refused_by slot verdict = slot ∷ []
 -- the numbers of the slots that are refused
 abbrev pub refused_slots : Settings → List Claimed → List Claimed → List ℕ
 refused_slots settings before [] = []
-refused_slots settings before (input ∷ inputs) = refused_by (length before) (verdict_at settings before input) ++ refused_slots settings (before ++ input ∷ []) inputs
+refused_slots settings before (input ∷ inputs) =
+    refused_by (length before) (verdict_at settings before input) ++ refused_slots settings (before ++ input ∷ []) inputs
 
 -- the status at the end, by the slots that were refused
 abbrev pub audit_status : List ℕ → Status
@@ -48,7 +49,8 @@ audit_status (slot ∷ slots) = Refused slot (length (slot ∷ slots))
 -- an input is a slot of 510 bytes whose letter is built, and as many bytes as its reading record has with certificates
 abbrev pub auditing : Settings → Shape Claimed
 auditing settings = record {
-  Fits = λ before input. (length input.0 ≡ 510) × IsTrue (is_built_slot settings (length before) input.0) × (length input.1 ≡ claim_length (front_at settings before input.0));
+  Fits = λ before input. (length input.0 ≡ 510) × IsTrue (is_built_slot settings (length before) input.0)
+      × (length input.1 ≡ claim_length (front_at settings before input.0));
   spelling = λ input. input.0 ++ input.1;
   Stops = λ before bytes status. status ≡ framing_stop settings (length before) bytes;
   out = λ before input. verdict_line (length before) (verdict_at settings before input);

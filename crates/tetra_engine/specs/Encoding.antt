@@ -17,8 +17,10 @@ use Rattle.tetra_engine.specs.Slots.{slot_bytes}
 -- How a run ends where bytes, at least one, begin no built record of slot n. Where they begin with the record of
 -- blocks that fit, its letter is not built.
 abbrev pub EncodingStops : Settings → ℕ → List ℕ → Status → Type 0
-EncodingStops settings n bytes (Input slot why) = (slot ≡ n) × NoneBegins settings n bytes × (record_why settings n bytes ≡ why)
-EncodingStops settings n bytes NotBuilt = (blocks : SlotBlocks) × (rest : List ℕ) × Fits settings n blocks × (bytes ≡ spelling blocks ++ rest)
+EncodingStops settings n bytes (Input slot why) =
+    (slot ≡ n) × NoneBegins settings n bytes × (record_why settings n bytes ≡ why)
+EncodingStops settings n bytes NotBuilt =
+    (blocks : SlotBlocks) × (rest : List ℕ) × Fits settings n blocks × (bytes ≡ spelling blocks ++ rest)
 EncodingStops settings n bytes status = ⊥
 
 -- a record is not empty

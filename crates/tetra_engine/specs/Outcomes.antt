@@ -38,7 +38,8 @@ pub record ReadFront {X : Type 0} (shape : Shape X) (max : ℕ) (Took : List ℕ
 -- nothing, or a proper front of what is written for the input that came behind xs
 abbrev pub IsFrontOfNext : {X : Type 0} → Shape X → ℕ → List X → List ℕ → List ℕ → Type 0
 IsFrontOfNext {X} shape max xs rest front =
-    (front ≡ []) ⊎ ((x : X) × (more : List ℕ) × (k : ℕ) × (length xs < max) × shape.Fits xs x × (rest ≡ shape.spelling x ++ more) × (k < length (shape.out xs x)) × (front ≡ take k (shape.out xs x)))
+    (front ≡ []) ⊎ ((x : X) × (more : List ℕ) × (k : ℕ) × (length xs < max) × shape.Fits xs x
+    × (rest ≡ shape.spelling x ++ more) × (k < length (shape.out xs x)) × (front ≡ take k (shape.out xs x)))
 
 -- the end of a run over these bytes in which a write or the flush failed
 pub record WriteFront {X : Type 0} (shape : Shape X) (max : ℕ) (bytes : List ℕ) (Took : List ℕ → Type 0) (end : End) : Type 0 where
@@ -89,4 +90,5 @@ IsEnd status = ⊥
 
 -- a run over these bytes that meets no fault has one end
 abbrev pub OneEnd : {X : Type 0} → Shape X → Type 0
-OneEnd shape = (max : ℕ) (bytes : List ℕ) (end other : End) → Outcome shape max bytes (λ output. ⊤) end → Outcome shape max bytes (λ output. ⊤) other → end ≡ other
+OneEnd shape = (max : ℕ) (bytes : List ℕ) (end other : End)
+    → Outcome shape max bytes (λ output. ⊤) end → Outcome shape max bytes (λ output. ⊤) other → end ≡ other

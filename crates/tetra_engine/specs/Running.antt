@@ -29,19 +29,26 @@ Starts (Ok (command, settings)) Source Sink end = StartsBuilt (is_ready command 
 Starts (Err fault) Source Sink end = StopsAt (Words fault.index fault.why) Source Sink end
 
 -- the end of a command's run
-abbrev pub CommandEnds : Command → Settings → Option (List ℕ) → Option (List ℕ) → Option (List ℕ) → Option (List ℕ) → End → Type 0
-CommandEnds Encode settings rest0 rest1 taken0 taken1 end = EndsBy end.status (encoding settings) settings.max rest0 rest1 (Grows taken0 taken1) end
-CommandEnds Decode settings rest0 rest1 taken0 taken1 end = EndsBy end.status (decoding settings) settings.max rest0 rest1 (Grows taken0 taken1) end
-CommandEnds Audit settings rest0 rest1 taken0 taken1 end = EndsBy end.status (auditing settings) settings.max rest0 rest1 (Grows taken0 taken1) end
+abbrev pub CommandEnds : Command → Settings
+    → Option (List ℕ) → Option (List ℕ) → Option (List ℕ) → Option (List ℕ) → End → Type 0
+CommandEnds Encode settings rest0 rest1 taken0 taken1 end =
+    EndsBy end.status (encoding settings) settings.max rest0 rest1 (Grows taken0 taken1) end
+CommandEnds Decode settings rest0 rest1 taken0 taken1 end =
+    EndsBy end.status (decoding settings) settings.max rest0 rest1 (Grows taken0 taken1) end
+CommandEnds Audit settings rest0 rest1 taken0 taken1 end =
+    EndsBy end.status (auditing settings) settings.max rest0 rest1 (Grows taken0 taken1) end
 CommandEnds command settings rest0 rest1 taken0 taken1 end = Unit {0}
 
 -- the end of a run whose words pass and are built
-abbrev pub EndsBuilt : Bool → Command → Settings → Option (List ℕ) → Option (List ℕ) → Option (List ℕ) → Option (List ℕ) → End → Type 0
+abbrev pub EndsBuilt : Bool → Command → Settings
+    → Option (List ℕ) → Option (List ℕ) → Option (List ℕ) → Option (List ℕ) → End → Type 0
 EndsBuilt true command settings rest0 rest1 taken0 taken1 end = CommandEnds command settings rest0 rest1 taken0 taken1 end
 EndsBuilt false command settings rest0 rest1 taken0 taken1 end = Unit {0}
 
-abbrev pub Ends : Result (Command × Settings) WordFault → Option (List ℕ) → Option (List ℕ) → Option (List ℕ) → Option (List ℕ) → End → Type 0
-Ends (Ok (command, settings)) rest0 rest1 taken0 taken1 end = EndsBuilt (is_ready command settings) command settings rest0 rest1 taken0 taken1 end
+abbrev pub Ends : Result (Command × Settings) WordFault
+    → Option (List ℕ) → Option (List ℕ) → Option (List ℕ) → Option (List ℕ) → End → Type 0
+Ends (Ok (command, settings)) rest0 rest1 taken0 taken1 end =
+    EndsBuilt (is_ready command settings) command settings rest0 rest1 taken0 taken1 end
 Ends (Err fault) rest0 rest1 taken0 taken1 end = Unit {0}
 
 -- such a run settles the sink, but where a write or the flush failed

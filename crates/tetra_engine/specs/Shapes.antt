@@ -44,12 +44,15 @@ pub record IsCut {X : Type 0} (shape : Shape X) (max : ℕ) (bytes : List ℕ) (
 
 -- Inputs behind the same inputs whose spellings begin the same bytes are the same.
 abbrev pub IsUnambiguous : {X : Type 0} → Shape X → Type 0
-IsUnambiguous {X} shape = (before : List X) (x y : X) (u v : List ℕ) → shape.Fits before x → shape.Fits before y → shape.spelling x ++ u ≡ shape.spelling y ++ v → x ≡ y
+IsUnambiguous {X} shape = (before : List X) (x y : X) (u v : List ℕ)
+    → shape.Fits before x → shape.Fits before y → shape.spelling x ++ u ≡ shape.spelling y ++ v → x ≡ y
 
 -- Bytes that begin no input end a run in one way.
 abbrev pub IsDecided : {X : Type 0} → Shape X → Type 0
-IsDecided {X} shape = (before : List X) (bytes : List ℕ) (s t : Status) → shape.Stops before bytes s → shape.Stops before bytes t → s ≡ t
+IsDecided {X} shape = (before : List X) (bytes : List ℕ) (s t : Status)
+    → shape.Stops before bytes s → shape.Stops before bytes t → s ≡ t
 
 -- there is one cut of the bytes
 abbrev pub OneCut : {X : Type 0} → Shape X → Type 0
-OneCut {X} shape = (max : ℕ) (bytes : List ℕ) (xs ys : List X) (u v : List ℕ) → IsCut shape max bytes xs u → IsCut shape max bytes ys v → (xs ≡ ys) × (u ≡ v)
+OneCut {X} shape = (max : ℕ) (bytes : List ℕ) (xs ys : List X) (u v : List ℕ)
+    → IsCut shape max bytes xs u → IsCut shape max bytes ys v → (xs ≡ ys) × (u ≡ v)

@@ -14,7 +14,8 @@ use Rattle.tetra_engine.specs.Outcomes.{IsPart}
 
 -- told bytes, at least one, begin no input behind these, and a run ends so
 abbrev pub NoneBegins : {X : Type 0} → Shape X → List X → Option (List ℕ) → Status → Type 0
-NoneBegins shape before old status = IfSome old (λ bytes. (0 < length bytes) × NoInput shape before bytes × shape.Stops before bytes status)
+NoneBegins shape before old status =
+    IfSome old (λ bytes. (0 < length bytes) × NoInput shape before bytes × shape.Stops before bytes status)
 
 -- the bytes that went are part of an input behind these, where both ends are told
 abbrev pub TakesPart : {X : Type 0} → Shape X → List X → Option (List ℕ) → Option (List ℕ) → Type 0
@@ -31,8 +32,10 @@ StopGives shape before old new Stands More = ⊥
 StopGives shape before old new Stands Fault = TakesPart shape before old new
 
 -- what reading an input behind these gives; Holds says that the work holds it
-abbrev pub ReadGives : {X : Type 0} → Shape X → List X → Option (List ℕ) → Option (List ℕ) → (X → Type 0) → Type 0 → Result (Unit {0}) Stop → Type 0
-ReadGives {X} shape before old new Holds Stands (Ok u) = (x : X) × Holds x × shape.Fits before x × Consumes old new (shape.spelling x)
+abbrev pub ReadGives : {X : Type 0} → Shape X → List X
+    → Option (List ℕ) → Option (List ℕ) → (X → Type 0) → Type 0 → Result (Unit {0}) Stop → Type 0
+ReadGives {X} shape before old new Holds Stands (Ok u) =
+    (x : X) × Holds x × shape.Fits before x × Consumes old new (shape.spelling x)
 ReadGives shape before old new Holds Stands (Err stop) = StopGives shape before old new Stands stop
 
 -- what stands behind the last slot that may be read

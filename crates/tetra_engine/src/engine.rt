@@ -35,7 +35,8 @@ fn run_command<S: Source, K: Sink>(
     requires valid { IsValid settings.now }
     requires command { IsTrue (is_built_command command) }
     requires built { IsBuilt settings.now }
-    ensures ends { CommandEnds command settings.now (S.rest src.old) (S.rest src.new) (K.taken sink.old) (K.taken sink.new) result }
+    ensures ends { CommandEnds command settings.now (S.rest src.old) (S.rest src.new)
+        (K.taken sink.old) (K.taken sink.new) result }
     ensures left { IsEnd result.status → IsAtEnd (S.rest src.new) }
     ensures settled { result.status ≢ Status.Write → IsTrue (K.settled sink.new) }
     ensures read { result.status ≡ Status.Read → Rose (S.faults src.old) (S.faults src.new) }
@@ -59,7 +60,8 @@ pub fn run<S: Source, K: Sink>(words: &[String], src: &mut S, sink: &mut K) -> E
     // Faulty words give Words, and words that are not built give NotBuilt. Then source and sink are as they were.
     ensures starts { Starts (meaning (texts words.now)) (src.new ≡ src.old) (sink.new ≡ sink.old) result }
     // Each other end is the one that the told bytes define, with its output, or what stands after a fault.
-    ensures ends { Ends (meaning (texts words.now)) (S.rest src.old) (S.rest src.new) (K.taken sink.old) (K.taken sink.new) result }
+    ensures ends { Ends (meaning (texts words.now)) (S.rest src.old) (S.rest src.new)
+        (K.taken sink.old) (K.taken sink.new) result }
     // Done and Refused leave nothing to read.
     ensures left { IsEnd result.status → IsAtEnd (S.rest src.new) }
     // On every end but those of the words and of a failed write or flush the sink is settled.

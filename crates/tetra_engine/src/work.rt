@@ -49,7 +49,9 @@ pub trait Work {
     fn read<S: Source>(&mut self, src: &mut S, slot: u32) -> Result<(), Stop>
         requires slot { slot < 16777216 }
         requires stands { (xs : List Input) × stands self.old xs × (slot ≡ length xs) }
-        ensures gives { (xs : List Input) → stands self.old xs → slot ≡ length xs → ReadGives (shape (settings self.old)) xs (S.rest src.old) (S.rest src.new) (holds self.new xs) (stands self.new xs) result }
+        ensures gives { (xs : List Input) → stands self.old xs → slot ≡ length xs
+            → ReadGives (shape (settings self.old)) xs (S.rest src.old) (S.rest src.new)
+            (holds self.new xs) (stands self.new xs) result }
         ensures settings { settings self.new ≡ settings self.old }
         ensures later { S.faults src.old ≤ S.faults src.new }
         ensures cause { ReadRose (S.faults src.old) (S.faults src.new) result };
@@ -57,8 +59,10 @@ pub trait Work {
     /// Writes the output of the input that it holds.
     fn write<K: Sink>(&mut self, sink: &mut K) -> Result<(), SinkFault>
         requires { (xs : List Input) × (x : Input) × holds self.old xs x }
-        ensures ok { (xs : List Input) (x : Input) → holds self.old xs x → OnOk result (Appends (K.taken sink.old) (K.taken sink.new) ((shape (settings self.old)).out xs x)) }
-        ensures err { (xs : List Input) (x : Input) → holds self.old xs x → OnErr result (AddsFront (K.taken sink.old) (K.taken sink.new) ((shape (settings self.old)).out xs x)) }
+        ensures ok { (xs : List Input) (x : Input) → holds self.old xs x
+            → OnOk result (Appends (K.taken sink.old) (K.taken sink.new) ((shape (settings self.old)).out xs x)) }
+        ensures err { (xs : List Input) (x : Input) → holds self.old xs x
+            → OnErr result (AddsFront (K.taken sink.old) (K.taken sink.new) ((shape (settings self.old)).out xs x)) }
         ensures stands { (xs : List Input) (x : Input) → holds self.old xs x → stands self.new (xs ++ x ∷ []) }
         ensures settings { settings self.new ≡ settings self.old }
         ensures cause { HasCause (K.faults sink.old) (K.faults sink.new) result };
@@ -69,14 +73,16 @@ pub trait Work {
         ensures quiet { IsEnd result };
 
     /// A spelling is not empty.
-    ghost some: { (s : Settings) (before : List Input) (x : Input) → (shape s).Fits before x → 0 < length ((shape s).spelling x) };
+    ghost some: { (s : Settings) (before : List Input) (x : Input) → (shape s).Fits before x
+        → 0 < length ((shape s).spelling x) };
 }
 
 /// The loop over the slots of a command, up to the end of the input or the first fault.
 pub fn drive<W: Work, S: Source, K: Sink>(work: &mut W, max: u32, src: &mut S, sink: &mut K) -> End
     requires start { W.stands work.old [] }
     requires most { max ≤ 16777216 }
-    ensures ends { EndsBy result.status (W.shape (W.settings work.old)) max (S.rest src.old) (S.rest src.new) (TookBefore result.status (K.taken sink.old) (K.taken sink.new)) result }
+    ensures ends { EndsBy result.status (W.shape (W.settings work.old)) max (S.rest src.old) (S.rest src.new)
+        (TookBefore result.status (K.taken sink.old) (K.taken sink.new)) result }
     ensures left { IsEnd result.status → IsAtEnd (S.rest src.new) }
     ensures source_later { S.faults src.old ≤ S.faults src.new }
     ensures sink_later { K.faults sink.old ≤ K.faults sink.new }
@@ -131,7 +137,8 @@ fn ended(stop: Stop, at_end: Status, slots: u32) -> End
 pub fn finish<W: Work, S: Source, K: Sink>(work: &mut W, max: u32, src: &mut S, sink: &mut K) -> End
     requires start { W.stands work.old [] }
     requires most { max ≤ 16777216 }
-    ensures ends { EndsBy result.status (W.shape (W.settings work.old)) max (S.rest src.old) (S.rest src.new) (Grows (K.taken sink.old) (K.taken sink.new)) result }
+    ensures ends { EndsBy result.status (W.shape (W.settings work.old)) max (S.rest src.old) (S.rest src.new)
+        (Grows (K.taken sink.old) (K.taken sink.new)) result }
     ensures left { IsEnd result.status → IsAtEnd (S.rest src.new) }
     ensures settled { result.status ≢ Status.Write → IsTrue (K.settled sink.new) }
     ensures read { result.status ≡ Status.Read → Rose (S.faults src.old) (S.faults src.new) }

@@ -4,35 +4,15 @@
 //! words, and with 9 where the system does not give them for another cause.
 #![tactic(auto)]
 
+mod no_words;
+
+use no_words::NoWords;
 use std::env;
 use std::env::Env;
 use std::io::ErrorKind;
 use std::process::ExitCode;
 use tetra_engine::{exit_code, line, run};
 use tetra_io::{StdSink, StdSource};
-
-/// Why there are no words.
-#[derive(Clone, Copy, PartialEq, Eq)]
-enum NoWords {
-    Memory,
-    System,
-}
-
-impl NoWords {
-    fn text(self) -> &'static str {
-        match self {
-            NoWords::Memory => "no memory for the words",
-            NoWords::System => "no words given",
-        }
-    }
-
-    fn exit_code(self) -> u8 {
-        match self {
-            NoWords::Memory => 7,
-            NoWords::System => 9,
-        }
-    }
-}
 
 /// The words behind the program's name.
 fn collect<R: AllocGlobal + Env>(rt: &R) -> Result<Vec<String>, NoWords> {
@@ -55,8 +35,8 @@ fn main(rt: HostRuntime) -> ExitCode {
     let words = match collect(&rt) {
         Ok(words) => words,
         Err(cause) => {
-            let _ = eprintln!(rt; "{}", cause.text());
-            return ExitCode::from(cause.exit_code());
+            let _ = eprintln!(rt; "{}", no_words::text(cause));
+            return ExitCode::from(no_words::exit_code(cause));
         }
     };
     let mut src = StdSource::new(rt.stdin());

@@ -7,3 +7,5 @@ pub mod RightFields
 pub mod Spelled
 pub mod Tables
 pub mod Testing
+pub mod SmallBytes
+pub mod OwnRecords

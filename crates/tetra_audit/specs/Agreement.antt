@@ -3,16 +3,20 @@
 use Rattle.std.specs.Prelude.{◌≡◌, ◌↔◌, ℕ, ◌+◌, ◌<◌, List, [], ◌∷◌, length, slice_index, None, Some, ℤ}
 use Rattle.std.specs.List.{All}
 use Rattle.std.specs.declared.option.Option.{Option}
+use Rattle.tetra_bits.specs.Soft.{AllSoft}
 use Rattle.tetra_puncture.specs.Best.{best_of}
 use Rattle.tetra_puncture.specs.Rules.{IsAccepted}
 use Rattle.tetra_puncture.specs.Spread.{spread_values}
 use Rattle.tetra_records.specs.Readings.{reading_spelling}
 use Rattle.tetra_rm.specs.declared.table.Rows.{Rows}
+use Rattle.tetra_session.specs.Built.{IsBuiltLetter}
 use Rattle.tetra_session.specs.Fronts.{IsFront}
+use Rattle.tetra_session.specs.Heard.{slot_letter, slot_front, slot_reading}
 use Rattle.tetra_session.specs.declared.front.FrontField.{FrontField}
 use Rattle.tetra_session.specs.declared.front.Front.{Front}
 use Rattle.tetra_settings.specs.declared.readings.Field.{Field}
 use Rattle.tetra_settings.specs.declared.types.Form.TheVariants.{Audit}
+use Rattle.tetra_settings.specs.declared.types.Settings.{Settings}
 use Rattle.tetra_audit.specs.Fields.{Code, code_of, field_reading, IsAudited, claim_length}
 use Rattle.tetra_audit.specs.Verdicts.{slot_verdict}
 use Rattle.tetra_audit.specs.declared.verdict.SlotVerdict.TheVariants.{Agrees}
@@ -58,3 +62,14 @@ AreBytes bytes = (k : ℕ) → slice_index bytes k < 256
 abbrev pub AgreesExactly : Type 0
 AgreesExactly = (rows : Rows) (front : Front) (claim : List ℕ) → IsFront front → All IsAudited front.fields.items → AreBytes claim → length claim ≡ claim_length front →
     (slot_verdict rows front claim ≡ Agrees) ↔ IsRightClaim front claim
+
+-- the record that is defined for a slot, with certificates
+abbrev pub own_record : Settings → List (List ℤ) → List ℤ → List ℕ
+own_record settings history soft = reading_spelling Audit (slot_reading settings history soft)
+
+-- it has the length that is claimed for the slot, and agrees
+abbrev pub OwnRecordsAgree : Type 0
+OwnRecordsAgree = (rows : Rows) (settings : Settings) (history : List (List ℤ)) (soft : List ℤ)
+    → AllSoft soft → IsBuiltLetter (slot_letter settings (length history) soft)
+    → (length (own_record settings history soft) ≡ claim_length (slot_front settings history soft))
+    × (slot_verdict rows (slot_front settings history soft) (own_record settings history soft) ≡ Agrees)

@@ -9,7 +9,7 @@ mod layouts;
 mod slots;
 mod verdict;
 
-pub use laws::agrees_exactly;
+pub use laws::{agrees_exactly, own_records_agree};
 pub use layouts::claim_len;
 pub use slots::{audit_slot, audit_slot_with};
 pub use verdict::{FieldWhy, SlotVerdict};

@@ -6,3 +6,4 @@ pub mod Audited
 pub mod Unambiguous
 pub mod Ends
 pub mod Encoded
+pub mod OwnAudits

@@ -14,3 +14,4 @@ pub mod Auditing
 pub mod Refusals
 pub mod Auditor
 pub mod Running
+pub mod Agreeing

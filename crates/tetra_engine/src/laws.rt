@@ -1,5 +1,6 @@
 // Laws of the definitions.
 ghost use Rattle.tetra_settings.specs.declared.types.Settings.{Settings};
+ghost use Rattle.tetra_engine.specs.Agreeing.{DecodedAgrees};
 ghost use Rattle.tetra_engine.specs.Auditing.{auditing};
 ghost use Rattle.tetra_engine.specs.Decoding.{decoding};
 ghost use Rattle.tetra_engine.specs.Encoding.{encoding};
@@ -18,4 +19,10 @@ pub fn one_end()
     ensures encode { (settings : Settings) → OneEnd (encoding settings) }
     ensures decode { (settings : Settings) → OneEnd (decoding settings) }
     ensures audit { (settings : Settings) → OneEnd (auditing settings) }
+{}
+
+/// What decoding wrote with certificates is accepted: an audit of it under the same settings, with any greatest number of
+/// slots that is not below theirs, ends Done and writes `ok` for each.
+pub fn decoded_agrees()
+    ensures { DecodedAgrees }
 {}

@@ -19,7 +19,7 @@ mod verdicts;
 mod work;
 
 pub use engine::run;
-pub use laws::{one_cut, one_end};
+pub use laws::{decoded_agrees, one_cut, one_end};
 pub use lines::{exit_code, line};
 pub use rehearsal::rehearse;
 pub use status::{End, Status};

@@ -13,3 +13,4 @@ pub mod ToGo
 pub mod Sent
 pub mod Shapes
 pub mod Undamaged
+pub mod OwnCosts

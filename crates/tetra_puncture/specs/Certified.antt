@@ -5,6 +5,7 @@ use Rattle.tetra_puncture.specs.Best.{IsFirstLeast, best_of, message_metric}
 use Rattle.tetra_puncture.specs.Plan.{CodePlan, IsMessage, HasSizes, PlacesRise, PlacesLie}
 use Rattle.tetra_puncture.specs.Rules.{IsAccepted}
 use Rattle.tetra_puncture.specs.Spread.{spread_values}
+use Rattle.tetra_puncture.specs.ToGo.{potentials_of}
 use Rattle.tetra_puncture.specs.Trellis.{IsCostToGo, state_passed}
 
 -- the message is first-least, and the table tells its metric, is nowhere greater than the cost to go, and has the costs to
@@ -31,3 +32,8 @@ AcceptedIsCertified = (p : CodePlan) (r : List ℤ) (m : List Bool) (table : Lis
 -- there is one cost to go
 abbrev pub CostToGoIsOne : Type 0
 CostToGoIsOne = (p : CodePlan) (wide : List ℤ) (t s n n' : ℕ) → IsCostToGo p wide t s n → IsCostToGo p wide t s n' → n ≡ n'
+
+-- beside the first-least message the costs to go meet all rules
+abbrev pub CostsToGoAreAccepted : Type 0
+CostsToGoAreAccepted = (p : CodePlan) (r : List ℤ) → HasSizes p → PlacesRise p → PlacesLie p → length r ≡ p.sent
+    → IsAccepted p (spread_values p r) (best_of p r) (potentials_of p r)

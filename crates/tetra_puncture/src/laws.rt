@@ -1,5 +1,5 @@
 // Laws of the definitions.
-ghost use Rattle.tetra_puncture.specs.Certified.{AcceptedIsCertified, CostToGoIsOne};
+ghost use Rattle.tetra_puncture.specs.Certified.{AcceptedIsCertified, CostToGoIsOne, CostsToGoAreAccepted};
 ghost use Rattle.tetra_puncture.specs.Plan.{WordsDiffer};
 ghost use Rattle.tetra_puncture.specs.ToGo.{CostToGoIsFound};
 
@@ -24,4 +24,9 @@ pub fn cost_to_go_is_one()
 /// The cost to go as a function has the cost to go.
 pub fn cost_to_go_is_found()
     ensures { CostToGoIsFound }
+{}
+
+/// Beside the first-least message the costs to go meet all rules.
+pub fn costs_to_go_are_accepted()
+    ensures { CostsToGoAreAccepted }
 {}

@@ -9,7 +9,10 @@ mod sending;
 mod spreading;
 mod two_thirds;
 
-pub use laws::{accepted_is_certified, cost_to_go_is_found, cost_to_go_is_one, words_differ};
+pub use laws::{
+    accepted_is_certified, cost_to_go_is_found, cost_to_go_is_one, costs_to_go_are_accepted,
+    words_differ,
+};
 pub use plan::Plan;
 pub use rule::Rule;
 pub use sending::keep;

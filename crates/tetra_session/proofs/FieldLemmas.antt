@@ -1,28 +1,30 @@
 -- The fields of a slot: their sizes, and how great their numbers are.
 use Prim.Native.Nat.{zero, suc}
-use Rattle.std.proofs.Common.{ℕ, ℤ, ◌≡◌, ◌+◌, ◌*◌, ◌≤◌, inl, inr, Bool, true, false, IsTrue, cond, List, [], ◌∷◌, length, map, get_or, Some, arith, refl, ◌∙◌}
+use Rattle.std.proofs.Common.{ℕ, ℤ, pos, negsuc, ◌≡◌, ◌+◌, ◌*◌, ◌<◌, ◌≤◌, inl, inr, Bool, true, false, IsTrue, cond, List, [], ◌∷◌, length, map, get_or, Some, arith, refl, ◌∙◌}
 use Rattle.std.proofs.lemmas.Bool.{cases_lt}
 use Rattle.std.proofs.lemmas.List.{get_or_past}
 use Rattle.std.specs.Prelude.{All}
 use Rattle.arrayvec.specs.ArrayVec.{ArrayVec}
 use Rattle.tetra_bits.specs.Cost.{metric}
-use Rattle.tetra_bits.specs.Numbered.{length-numbered}
+use Rattle.tetra_bits.specs.Numbered.{numbered, length-numbered, get_or-numbered}
 use Rattle.tetra_bits.specs.Plain.{best_plain}
 use Rattle.tetra_bits.specs.Readings.{entry}
-use Rattle.tetra_bits.specs.Soft.{AllSoft}
+use Rattle.tetra_bits.specs.Soft.{IsSoft, AllSoft}
 use Rattle.tetra_bits.specs.declared.reading.Mark.TheVariants.{Good, Bad}
 use Rattle.tetra_bits.proofs.Best.{best_is_first}
 use Rattle.tetra_channels.specs.Channels.{front_values}
-use Rattle.std.specs.Prelude.{pos}
+use Rattle.std.proofs.lemmas.Int.{ints}
+use Rattle.std.proofs.Math.IntN.{neg_ℤ}
 use Rattle.tetra_channels.specs.Fields.{mark_of, coded_reading, raw_reading}
 use Rattle.tetra_interleave.proofs.Places.{length-deinterleaved}
-use Rattle.tetra_scramble.specs.Flips.{turned}
+use Rattle.tetra_interleave.specs.Block.{deinterleaved, taken_from}
+use Rattle.tetra_scramble.specs.Flips.{turned, turned_value, key_bit_for}
 use Rattle.tetra_puncture.specs.Best.{best_of, message_metric}
 use Rattle.tetra_puncture.specs.Places.{two_thirds, IsTwoThirds}
 use Rattle.tetra_puncture.specs.Plan.{CodePlan, PlacesRise, PlacesLie}
 use Rattle.tetra_puncture.specs.ToGo.{potentials_of}
 use Rattle.tetra_puncture.specs.TwoThirdsLaws.{two_thirds_rise, two_thirds_lie}
-use Rattle.tetra_puncture.proofs.Bounds.{message_metric_small}
+use Rattle.tetra_puncture.proofs.Bounds.{message_metric_small, soft_at}
 use Rattle.tetra_puncture.proofs.Shapes.{length-best_of, length-potentials_of, length-row_of_potentials, potential_sent}
 use Rattle.tetra_scramble.proofs.Entries.{length-turned}
 use Rattle.tetra_settings.specs.Slots.{byte_of}
@@ -59,6 +61,34 @@ full_size key soft = length-deinterleaved (pos 0) 432 103 (turned (word_values s
 pub raw_size : (key : List Bool) (soft : List ℤ) → length (raw_values key soft) ≡ 432
 unfolding raw_values
 raw_size key soft = length-turned (word_values soft) key 1 ∙ word_size soft
+
+-- values that are taken from soft ones are soft
+all_numbered : {X : Type 0} (Holds : X → Type 0) (f : ℕ → X) (n : ℕ) → ((i : ℕ) → Holds (f i)) → All Holds (numbered f n)
+all_numbered Holds f n each k d within =
+    let small : k < n = omega (arith, length-numbered f n) in
+    rw (get_or-numbered f n k d small) (each (k + 1))
+
+neg_soft : (v : ℤ) → IsSoft v → IsSoft (neg_ℤ v)
+neg_soft (pos zero) soft = (omega (arith, ints), omega (arith, ints))
+neg_soft (pos (suc n)) soft = (omega (arith, ints, soft), omega (arith, ints))
+neg_soft (negsuc n) soft = (omega (arith, ints), omega (arith, ints, soft))
+
+turned_soft : (b : Bool) (v : ℤ) → IsSoft v → IsSoft (cond b (neg_ℤ v) v)
+turned_soft true v soft = neg_soft v soft
+turned_soft false v soft = soft
+
+word_soft : (soft : List ℤ) → AllSoft soft → AllSoft (word_values soft)
+unfolding word_values word_value
+word_soft soft all = all_numbered IsSoft (word_value soft) 432 (λ i. soft_at soft all _)
+
+key_soft : (values : List ℤ) (key : List Bool) → AllSoft values → AllSoft (turned values key 1)
+unfolding turned turned_value
+key_soft values key all = all_numbered IsSoft (turned_value values key 1) (length values) (λ i. turned_soft (key_bit_for key 1 i) _ (soft_at values all _))
+
+pub full_soft : (key : List Bool) (soft : List ℤ) → AllSoft soft → AllSoft (full_values key soft)
+unfolding full_values front_values deinterleaved taken_from
+full_soft key soft all =
+    all_numbered IsSoft (taken_from (pos 0) 432 103 (turned (word_values soft) key 1)) 432 (λ i. soft_at (turned (word_values soft) key 1) (key_soft (word_values soft) key (word_soft soft all)) _)
 
 -- a field of SCH/F
 full_marked : (b : Bool) → IsMarked Full (cond b Good Bad)

@@ -1,0 +1,160 @@
+-- An audit of what decoding wrote with certificates.
+use Prim.Native.Nat.{zero, suc}
+use Rattle.std.proofs.Common.{◌≡◌, ℕ, ◌+◌, ◌-◌, ◌<◌, ◌≤◌, List, [], ◌∷◌, ◌++◌, length, map, Bool, true, false, IsTrue, cond, nat_lt, nat_eq, ℤ, pos, negsuc, arith, refl, sym, ap, subst, ◌∙◌, length-append, append-nil}
+use Rattle.std.proofs.lemmas.Bool.Decides.{nat_tests}
+use Rattle.std.proofs.lemmas.Int.{ints}
+use Rattle.std.proofs.lemmas.List.{length-map}
+use Rattle.std.specs.List.{flat_map, range_with_len}
+use Rattle.tetra_bits.specs.Soft.{IsSoft, AllSoft, soft_value}
+use Rattle.tetra_records.specs.Readings.{reading_spelling}
+use Rattle.tetra_session.specs.Built.{is_built_letter, IsBuiltLetter}
+use Rattle.tetra_session.specs.Heard.{letter_heard, slot_letter, slot_front, slot_reading}
+use Rattle.tetra_settings.specs.Slots.{mode_of, use_of}
+use Rattle.tetra_settings.specs.declared.types.Form.{Form}
+use Rattle.tetra_settings.specs.declared.types.Form.TheVariants.{Audit}
+use Rattle.tetra_settings.specs.declared.types.Settings.{Settings}
+use Rattle.tetra_audit.proofs.OwnRecords.{own_records_agree}
+use Rattle.tetra_audit.specs.Agreement.{own_record}
+use Rattle.tetra_audit.specs.Fields.{claim_length}
+use Rattle.tetra_audit.specs.Verdicts.{slot_verdict}
+use Rattle.tetra_audit.specs.declared.verdict.SlotVerdict.TheVariants.{Agrees}
+use Rattle.tetra_engine.specs.Agreeing.{for_audit, DecodedAgrees}
+use Rattle.tetra_engine.specs.Auditing.{Claimed, slots_of, front_at, verdict_at, refused_by, refused_slots, audit_status, auditing}
+use Rattle.tetra_engine.specs.Decoding.{framed, decoded, decoding}
+use Rattle.tetra_engine.specs.Framing.{is_built_slot}
+use Rattle.tetra_engine.specs.Shapes.{AreInputs, spellings, outputs}
+use Rattle.tetra_engine.specs.Slots.{soft_values}
+use Rattle.tetra_engine.specs.Verdicts.{verdict_line}
+use Rattle.tetra_engine.proofs.Audited.{slots_more}
+use Rattle.tetra_engine.proofs.Framed.{heard_more}
+
+-- every byte stands for a soft value
+soft_byte : (byte : ℕ) → IsSoft (soft_value byte)
+soft_byte byte = by_tests (nat_lt byte 128) (nat_eq byte 128) refl refl
+  where
+    by_tests : (low edge : Bool) → nat_lt byte 128 ≡ low → nat_eq byte 128 ≡ edge → IsSoft (cond low (pos byte) (cond edge (negsuc 126) (negsuc (255 - byte))))
+    by_tests true edge is_low is_edge = let below : byte < 128 = grind (arith, nat_tests) in (omega (arith, ints), omega (arith, ints))
+    by_tests false true is_low is_edge = (omega (arith, ints), omega (arith, ints))
+    by_tests false false is_low is_edge = let above : 129 ≤ byte = grind (arith, nat_tests) in (omega (arith, ints), omega (arith, ints))
+
+soft_slot : (slot : List ℕ) → AllSoft (soft_values slot)
+soft_slot [] k d within = absurd (omega arith)
+soft_slot (byte ∷ slot) zero d within = soft_byte byte
+soft_slot (byte ∷ slot) (suc k) d within = soft_slot slot k d (omega arith)
+
+module _ (settings : Settings) (form : Form) (max : ℕ) where
+  -- neither form nor number of slots has a part in what is read
+  letter_same : (t : ℕ) (soft : List ℤ) → slot_letter (for_audit settings form max) t soft ≡ slot_letter settings t soft
+  unfolding letter_heard use_of mode_of
+  letter_same t soft = refl
+
+  front_same : (history : List (List ℤ)) (soft : List ℤ) → slot_front (for_audit settings form max) history soft ≡ slot_front settings history soft
+  unfolding slot_front letter_heard use_of mode_of
+  front_same history soft = refl
+
+  -- a slot with its own record, and slots with theirs
+  own : List (List ℕ) → List ℕ → Claimed
+  own before slot = (slot, own_record settings (map soft_values before) (soft_values slot))
+
+  owns : List (List ℕ) → List (List ℕ) → List Claimed
+  owns before [] = []
+  owns before (slot ∷ slots) = own before slot ∷ owns (before ++ slot ∷ []) slots
+
+  length-owns : (before slots : List (List ℕ)) → length (owns before slots) ≡ length slots
+  unfolding owns
+  length-owns before [] = refl
+  length-owns before (slot ∷ slots) = ap (λ n. suc n) (length-owns (before ++ slot ∷ []) slots)
+
+  -- these stand for the slots before
+  record Behind (before : List (List ℕ)) (claimed : List Claimed) : Type 0 where
+    pub slots : slots_of claimed ≡ map soft_values before
+    pub many : length claimed ≡ length before
+
+  behind_more : (before : List (List ℕ)) (claimed : List Claimed) (slot : List ℕ) → Behind before claimed → Behind (before ++ slot ∷ []) (claimed ++ own before slot ∷ [])
+  unfolding own
+  behind_more before claimed slot behind = record {
+    slots = slots_more claimed (own before slot) ∙ (ap (λ heard. heard ++ soft_values slot ∷ []) behind.slots ∙ sym (heard_more before slot));
+    many = omega (arith, length-append claimed (own before slot ∷ []), length-append before (slot ∷ []), behind.many);
+  }
+
+  module _ (before : List (List ℕ)) (claimed : List Claimed) (slot : List ℕ) (behind : Behind before claimed) (built : IsTrue (is_built_slot settings (length before) slot)) where
+    front_is : front_at (for_audit settings form max) claimed slot ≡ slot_front settings (map soft_values before) (soft_values slot)
+    front_is = front_same (slots_of claimed) (soft_values slot) ∙ ap (λ history. slot_front settings history (soft_values slot)) behind.slots
+
+    letter_built : IsBuiltLetter (slot_letter settings (length (map soft_values before)) (soft_values slot))
+    letter_built = subst (λ n. IsBuiltLetter (slot_letter settings n (soft_values slot))) (sym (length-map before soft_values)) built
+
+    still_built : IsTrue (is_built_slot (for_audit settings form max) (length claimed) slot)
+    still_built =
+        let at_claimed : IsTrue (is_built_slot settings (length claimed) slot) = subst (λ n. IsTrue (is_built_slot settings n slot)) (sym behind.many) built in
+        subst (λ letter. IsTrue (is_built_letter letter)) (sym (letter_same (length claimed) (soft_values slot))) at_claimed
+
+    long : length (own_record settings (map soft_values before) (soft_values slot)) ≡ claim_length (front_at (for_audit settings form max) claimed slot)
+    long =
+        (own_records_agree settings.rows settings (map soft_values before) (soft_values slot) (soft_slot slot) letter_built).0
+        ∙ ap claim_length (sym front_is)
+
+    agrees : verdict_at (for_audit settings form max) claimed (own before slot) ≡ Agrees
+    unfolding own
+    agrees =
+        ap (λ front. slot_verdict settings.rows front (own_record settings (map soft_values before) (soft_values slot))) front_is
+        ∙ (own_records_agree settings.rows settings (map soft_values before) (soft_values slot) (soft_slot slot) letter_built).1
+
+  inputs : (slots before : List (List ℕ)) (claimed : List Claimed) → Behind before claimed → AreInputs (decoding settings) before slots
+      → AreInputs (auditing (for_audit settings form max)) claimed (owns before slots)
+  unfolding own owns
+  inputs [] before claimed behind each = tt
+  inputs (slot ∷ slots) before claimed behind each = (
+    (each.0.0, still_built before claimed slot behind each.0.1, long before claimed slot behind each.0.1),
+    inputs slots (before ++ slot ∷ []) (claimed ++ own before slot ∷ []) (behind_more before claimed slot behind) each.1,
+  )
+
+  none_refused : (slots before : List (List ℕ)) (claimed : List Claimed) → Behind before claimed → AreInputs (decoding settings) before slots
+      → refused_slots (for_audit settings form max) claimed (owns before slots) ≡ []
+  unfolding owns
+  none_refused [] before claimed behind each = refl
+  none_refused (slot ∷ slots) before claimed behind each =
+      ap (λ verdict. refused_by (length claimed) verdict ++ refused_slots (for_audit settings form max) (claimed ++ own before slot ∷ []) (owns (before ++ slot ∷ []) slots)) (agrees before claimed slot behind each.0.1)
+      ∙ none_refused slots (before ++ slot ∷ []) (claimed ++ own before slot ∷ []) (behind_more before claimed slot behind) each.1
+
+  lines : (slots before : List (List ℕ)) (claimed : List Claimed) → Behind before claimed → AreInputs (decoding settings) before slots
+      → outputs (auditing (for_audit settings form max)) claimed (owns before slots) ≡ flat_map (λ slot. verdict_line slot Agrees) (range_with_len (length claimed) (length slots))
+  unfolding owns
+  lines [] before claimed behind each = refl
+  lines (slot ∷ slots) before claimed behind each =
+      let more : length (claimed ++ own before slot ∷ []) ≡ length claimed + 1 = length-append claimed (own before slot ∷ []) in
+      ap (λ verdict. verdict_line (length claimed) verdict ++ outputs (auditing (for_audit settings form max)) (claimed ++ own before slot ∷ []) (owns (before ++ slot ∷ []) slots)) (agrees before claimed slot behind each.0.1)
+      ∙ (ap (λ rest. verdict_line (length claimed) Agrees ++ rest) (lines slots (before ++ slot ∷ []) (claimed ++ own before slot ∷ []) (behind_more before claimed slot behind) each.1)
+      ∙ ap (λ n. verdict_line (length claimed) Agrees ++ flat_map (λ s. verdict_line s Agrees) (range_with_len n (length slots))) more)
+
+  -- what decoding writes is what an audit reads
+  written_is : settings.form ≡ Audit → (slots before : List (List ℕ)) → outputs (decoding settings) before slots ≡ spellings (auditing (for_audit settings form max)) (owns before slots)
+  unfolding own owns
+  written_is is [] before = refl
+  written_is is (slot ∷ slots) before =
+      let one : decoded settings before slot ≡ slot ++ own_record settings (map soft_values before) (soft_values slot) =
+      ap (λ f. framed f slot (reading_spelling f (slot_reading settings (map soft_values before) (soft_values slot)))) is in
+      ap (λ bytes. bytes ++ outputs (decoding settings) (before ++ slot ∷ []) slots) one
+      ∙ ap (λ rest. (slot ++ own_record settings (map soft_values before) (soft_values slot)) ++ rest) (written_is is slots (before ++ slot ∷ []))
+
+no_more : (x : Claimed) (rest : List ℕ) → length x.0 ≡ 510 → [] ≡ (x.0 ++ x.1) ++ rest → ⊥
+no_more x rest size e = absurd (omega (arith, ap length e, length-append (x.0 ++ x.1) rest, length-append x.0 x.1))
+
+pub decoded_agrees : DecodedAgrees
+decoded_agrees settings form max bytes written end audit few ran =
+    let slots : List (List ℕ) = ran.xs in
+    let start : Behind settings form max [] [] = record { slots = refl; many = refl } in
+    let many : length (owns settings form max [] slots) ≡ length slots = length-owns settings form max [] slots in
+    record {
+      xs = owns settings form max [] slots;
+      rest = [];
+      cut = record {
+        whole = sym ran.output ∙ (written_is settings form max audit slots [] ∙ sym (append-nil (spellings (auditing (for_audit settings form max)) (owns settings form max [] slots))));
+        each = inputs settings form max slots [] [] start ran.cut.each;
+        few = omega (arith, many, ran.slots);
+        longest = λ below x rest fits e. no_more x rest fits.0 e;
+      };
+      closes = ap audit_status (sym (none_refused settings form max slots [] [] start ran.cut.each));
+      slots = ran.slots ∙ sym many;
+      output = lines settings form max slots [] [] start ran.cut.each ∙ ap (λ n. flat_map (λ slot. verdict_line slot Agrees) (range_with_len 0 n)) (sym ran.slots);
+    }

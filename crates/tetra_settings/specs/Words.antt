@@ -93,11 +93,6 @@ first_cb index [] = None
 first_cb index (word ∷ words) =
     if gives_cb word then Some (record { index = index; why = NotUplink }) else first_cb (index + 1) words
 
-abbrev pub value_or : Value → Option (Result Value WordWhy) → Value
-value_or default None = default
-value_or default (Some (Ok value)) = value
-value_or default (Some (Err why)) = default
-
 -- what a text, if there is one, gives a key
 abbrev pub setting_by_text : Key → Option (List ℕ) → Value
 setting_by_text key None = (row key).default

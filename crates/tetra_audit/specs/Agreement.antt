@@ -1,5 +1,6 @@
--- What agreement says: the claim spells the defined readings, but that other tables that the rules accept may stand in place
--- of the certificates. So each byte outside the certificates is the defined one. This project's own.
+-- What agreement says: the claim spells the defined readings, but that other tables that the rules
+-- accept may stand in place of the certificates. So each byte outside the certificates is the defined
+-- one. This project's own.
 use Rattle.std.specs.Prelude.{◌≡◌, ◌↔◌, ℕ, ◌+◌, ◌<◌, List, [], ◌∷◌, length, slice_index, None, Some, ℤ}
 use Rattle.std.specs.List.{All}
 use Rattle.std.specs.declared.option.Option.{Option}
@@ -21,7 +22,8 @@ use Rattle.tetra_audit.specs.Fields.{Code, code_of, field_reading, IsAudited, cl
 use Rattle.tetra_audit.specs.Verdicts.{slot_verdict}
 use Rattle.tetra_audit.specs.declared.verdict.SlotVerdict.TheVariants.{Agrees}
 
--- a table of a row of 16 before each step and one behind the last, which the rules accept beside the first-least message
+-- a table of a row of 16 before each step and one behind the last, which the rules accept beside the
+-- first-least message
 pub record IsCertificate (code : Code) (soft : List ℤ) (table : List (List ℕ)) : Type 0 where
   pub rows : length table ≡ code.plan.steps + 1
   pub states : All (λ row. length row ≡ 16) table
@@ -60,8 +62,10 @@ AreBytes bytes = (k : ℕ) → slice_index bytes k < 256
 
 -- the verdict is Agrees exactly on such claims
 abbrev pub AgreesExactly : Type 0
-AgreesExactly = (rows : Rows) (front : Front) (claim : List ℕ) → IsFront front → All IsAudited front.fields.items → AreBytes claim → length claim ≡ claim_length front →
-    (slot_verdict rows front claim ≡ Agrees) ↔ IsRightClaim front claim
+AgreesExactly =
+    (rows : Rows) (front : Front) (claim : List ℕ)
+    → IsFront front → All IsAudited front.fields.items → AreBytes claim → length claim ≡ claim_length front
+    → (slot_verdict rows front claim ≡ Agrees) ↔ IsRightClaim front claim
 
 -- the record that is defined for a slot, with certificates
 abbrev pub own_record : Settings → List (List ℤ) → List ℤ → List ℕ

@@ -13,9 +13,11 @@ head_why metric mark bytes = first_of (metric_fault metric bytes ∷ mark_fault 
 
 -- those of a field whose bits come by no trellis
 unfoldable pub plain_why : List Bool → Mark → List ℕ → Option FieldWhy
-plain_why bits mark bytes = first_of (pad_fault (length bits) bytes ∷ bits_fault bits bytes ∷ metric_fault 0 bytes ∷ mark_fault mark bytes ∷ [])
+plain_why bits mark bytes = first_of (pad_fault (length bits) bytes ∷ bits_fault bits bytes
+    ∷ metric_fault 0 bytes ∷ mark_fault mark bytes ∷ [])
 
 -- those of a field of a code
 unfoldable pub coded_why : ℕ → CodePlan → List ℤ → List ℕ → Option FieldWhy
 coded_why parity plan soft bytes =
-    first_of (field_tests (Some (record { parity = parity; plan = plan })) (Some soft) (coded_reading parity plan soft) bytes)
+    first_of (field_tests (Some (record { parity = parity; plan = plan })) (Some soft)
+    (coded_reading parity plan soft) bytes)

@@ -41,7 +41,8 @@ fault_by (Refused step state rule) = Some (Cert step state rule)
 unfoldable pub cert_fault : Code → List ℤ → List ℕ → Option FieldWhy
 cert_fault code soft bytes =
     let len = code.plan.steps - 4 in
-    fault_by (verdict_of code.plan soft (claimed_bits (bits_part len bytes) len) (claimed_table (table_part len bytes) (code.plan.steps + 1)))
+    fault_by (verdict_of code.plan soft (claimed_bits (bits_part len bytes) len)
+    (claimed_table (table_part len bytes) (code.plan.steps + 1)))
 
 -- the metric is not this
 unfoldable pub metric_fault : ℕ → List ℕ → Option FieldWhy
@@ -51,13 +52,15 @@ metric_fault metric bytes = cond (nat_eq (metric_part bytes) metric) None (Some 
 unfoldable pub mark_fault : Mark → List ℕ → Option FieldWhy
 mark_fault mark bytes = cond (nat_eq (mark_part bytes) (mark_byte mark)) None (Some MarkFails)
 
--- The tests of a field, in this order: its pad bits; its bits, where they come by no trellis; its certificate, where they
--- come by one; its metric; its mark.
+-- The tests of a field, in this order: its pad bits; its bits, where they come by no trellis; its
+-- certificate, where they come by one; its metric; its mark.
 abbrev pub field_tests : Option Code → Option (List ℤ) → Reading → List ℕ → List (Option FieldWhy)
 field_tests (Some code) (Some soft) reading bytes =
-    pad_fault (code.plan.steps - 4) bytes ∷ cert_fault code soft bytes ∷ metric_fault reading.metric bytes ∷ mark_fault reading.mark bytes ∷ []
+    pad_fault (code.plan.steps - 4) bytes ∷ cert_fault code soft bytes
+    ∷ metric_fault reading.metric bytes ∷ mark_fault reading.mark bytes ∷ []
 field_tests code values reading bytes =
-    pad_fault (length reading.bits) bytes ∷ bits_fault reading.bits bytes ∷ metric_fault reading.metric bytes ∷ mark_fault reading.mark bytes ∷ []
+    pad_fault (length reading.bits) bytes ∷ bits_fault reading.bits bytes
+    ∷ metric_fault reading.metric bytes ∷ mark_fault reading.mark bytes ∷ []
 
 -- the first of its tests that fails
 unfoldable pub field_why : FrontField → List ℕ → Option FieldWhy
@@ -72,9 +75,11 @@ verdict_by i (Some why) later = Field i why
 unfoldable pub fields_verdict : ℕ → List FrontField → List ℕ → SlotVerdict
 fields_verdict i [] bytes = Agrees
 fields_verdict i (field ∷ fields) bytes =
-    verdict_by i (field_why field (take (field_length field) bytes)) (fields_verdict (i + 1) fields (drop (field_length field) bytes))
+    verdict_by i (field_why field (take (field_length field) bytes))
+    (fields_verdict (i + 1) fields (drop (field_length field) bytes))
 
 -- the verdict on a claim: its letter is compared first. No field that is audited so far asks for the rows of the access
 -- code
 unfoldable pub slot_verdict : Rows → Front → List ℕ → SlotVerdict
-slot_verdict rows front claim = cond (nat_eq (slice_index claim 0) front.letter) (fields_verdict 0 front.fields.items (drop 1 claim)) Kind
+slot_verdict rows front claim = cond (nat_eq (slice_index claim 0) front.letter)
+    (fields_verdict 0 front.fields.items (drop 1 claim)) Kind

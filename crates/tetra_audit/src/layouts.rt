@@ -36,7 +36,8 @@ pub fn bits_of(name: FieldName) -> usize
 }
 
 #[tactic(auto, unfolding(crate::specs::Fields::field_length))]
-/// The bytes of a field: its mark, its metric, its bits, and its certificate, which a field that is not there yet has not.
+/// The bytes of a field: its mark, its metric, its bits, and its certificate, which a field that is not
+/// there yet has not.
 pub fn field_len(field: &FrontField) -> usize
     ensures bytes { result ≡ field_length field.now }
     ensures few { result ≤ 9433 }
@@ -46,8 +47,8 @@ pub fn field_len(field: &FrontField) -> usize
     3 + bits.div_ceil(8) + 32 * claimed
 }
 
-/// The length of the reading record of a slot with certificates, as its letter and its fields give it: at most 18,743 bytes.
-/// This project's own.
+/// The length of the reading record of a slot with certificates, as its letter and its fields give it:
+/// at most 18,743 bytes. This project's own.
 pub fn claim_len(front: &Front) -> usize
     requires { IsFront front.now }
     ensures length { result ≡ claim_length front.now }

@@ -1,5 +1,5 @@
-//! The audit of reading records: whether a record claims what is defined for the soft values of a slot, whoever wrote it. Its
-//! certificates are checked by rules, so that nothing stands on a decoder.
+//! The audit of reading records: whether a record claims what is defined for the soft values of a slot,
+//! whoever wrote it. Its certificates are checked by rules, so that nothing stands on a decoder.
 #![tactic(auto)]
 
 mod claims;

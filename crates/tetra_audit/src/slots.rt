@@ -12,9 +12,10 @@ use tetra_bits::Potentials;
 use tetra_rm::Rows;
 use tetra_session::Front;
 
-/// Whether `claim`, a reading record with certificates of `claim_len` bytes, agrees with the letter and the soft values of a slot. The first
-/// failing test gives the verdict: first the letter, then for each field in order its pad bits, its bits where they come by no
-/// trellis, its certificate, its metric and its mark. `rows` are those of the access code. This project's own.
+/// Whether `claim`, a reading record with certificates of `claim_len` bytes, agrees with the letter and
+/// the soft values of a slot. The first failing test gives the verdict: first the letter, then for each
+/// field in order its pad bits, its bits where they come by no trellis, its certificate, its metric and
+/// its mark. `rows` are those of the access code. This project's own.
 pub fn audit_slot(rows: &Rows, front: &Front, claim: &[u8]) -> SlotVerdict
     requires front { IsFront front.now }
     requires audited { All IsAudited front.now.fields.items }

@@ -1,5 +1,6 @@
-//! Times the decoder and the checker on blocks of SCH/F: 288 steps, 432 soft values. `tetra_bench COUNT` prints one line
-//! for each, its name and the nanoseconds of a block; with no count it says how it is called and ends with 2.
+//! Times the decoder and the checker on blocks of SCH/F: 288 steps, 432 soft values.
+//! `tetra_bench COUNT` prints one line for each, its name and the nanoseconds of a block; with no count
+//! it says how it is called and ends with 2.
 #![tactic(auto)]
 
 ghost use Rattle.std.specs.Prelude.{◌≡◌, ◌<◌, ◌≤◌, ◌+◌, length};

@@ -17,8 +17,10 @@ label_of a b = 2 * bit_number a + bit_number b
 
 -- the labels of outputs 0 and 1 and of outputs 2 and 3 of the branches with bit b, by their states
 pub record HasLabels (taps : ℕ → ℕ → Bool) (outs : ℕ) (b : Bool) (labels : Labels) : Type 0 where
-  pub first : (s : ℕ) → s < 16 → slice_index labels.first s ≡ label_of (output_bit taps outs s b 0) (output_bit taps outs s b 1)
-  pub second : (s : ℕ) → s < 16 → slice_index labels.second s ≡ label_of (output_bit taps outs s b 2) (output_bit taps outs s b 3)
+  pub first : (s : ℕ) → s < 16
+      → slice_index labels.first s ≡ label_of (output_bit taps outs s b 0) (output_bit taps outs s b 1)
+  pub second : (s : ℕ) → s < 16
+      → slice_index labels.second s ≡ label_of (output_bit taps outs s b 2) (output_bit taps outs s b 3)
 
 -- a table has what the values v and w cost, by the label of the two bits
 unfoldable pub HasPairCosts : ℤ → ℤ → List ℕ → Type 0

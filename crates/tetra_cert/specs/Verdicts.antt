@@ -1,5 +1,5 @@
--- The verdict as a function of what is checked: the first place of all, in the order of step, state and rule, whose rule
--- is not met. This project's own.
+-- The verdict as a function of what is checked: the first place of all, in the order of step, state and
+-- rule, whose rule is not met. This project's own.
 use Prim.Native.Nat.{zero, suc}
 use Rattle.std.specs.Prelude.{◌≡◌, ◌↔◌, ℕ, ◌+◌, ◌||◌, not, nat_eq, nat_lt, nat_le, Bool, true, false, List, [], ◌∷◌, ◌++◌, ℤ, Option, Some, None, find}
 use Rattle.tetra_bits.specs.Readings.{entry}
@@ -24,9 +24,11 @@ is_met p wide m table t s End = not (nat_eq t p.steps) || nat_eq (entry table t 
 is_met p wide m table t s Edge0 = nat_le p.steps t || nat_le (entry table t s) (over_branch p wide table t s false)
 is_met p wide m table t s Edge1 = nat_le p.steps (t + 4) || nat_le (entry table t s) (over_branch p wide table t s true)
 is_met p wide m table t s Path =
-    nat_le p.steps t || not (nat_eq s (state_passed m t)) || nat_eq (entry table t s) (over_branch p wide table t s (bit_taken m t))
+    nat_le p.steps t || not (nat_eq s (state_passed m t))
+    || nat_eq (entry table t s) (over_branch p wide table t s (bit_taken m t))
 is_met p wide m table t s Tie =
-    nat_le p.steps t || not (nat_eq s (state_passed m t)) || not (bit_taken m t) || nat_lt (entry table t s) (over_branch p wide table t s false)
+    nat_le p.steps t || not (nat_eq s (state_passed m t)) || not (bit_taken m t)
+    || nat_lt (entry table t s) (over_branch p wide table t s false)
 
 -- whether the rule of a place is not met
 unfoldable pub fails : CodePlan → List ℤ → List Bool → List (List ℕ) → Place → Bool

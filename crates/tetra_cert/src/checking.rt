@@ -15,9 +15,9 @@ use tetra_bits::{Bits, Potentials, Soft, Wide};
 use tetra_mother::next;
 use tetra_puncture::{Plan, spread};
 
-/// Whether `potentials`, whoever made them, show that `message` is the first-least message over the received values `soft`.
-/// There are `SENT` values, `STEPS - 4` bits and `STEPS + 1` rows. The sums that are compared are of 64 bits, so no entry
-/// makes them wrap. This project's own.
+/// Whether `potentials`, whoever made them, show that `message` is the first-least message over the
+/// received values `soft`. There are `SENT` values, `STEPS - 4` bits and `STEPS + 1` rows. The sums
+/// that are compared are of 64 bits, so no entry makes them wrap. This project's own.
 pub fn check<P: Plan>(soft: &Soft, message: &Bits, potentials: &Potentials) -> Verdict
     requires sound { P.IsSound }
     requires values { length soft.now ≡ P.SENT }
@@ -30,7 +30,8 @@ pub fn check<P: Plan>(soft: &Soft, message: &Bits, potentials: &Potentials) -> V
     // Accepted shows that the message is first-least, with its metric, whoever made the table.
     ensures sound { IsSound P.plan soft.now message.now potentials.now result }
     // A table that meets the rules is accepted.
-    ensures complete { IsAccepted P.plan (spread_values P.plan soft.now) message.now potentials.now → result ≡ Verdict.Accepted }
+    ensures complete { IsAccepted P.plan (spread_values P.plan soft.now) message.now potentials.now
+        → result ≡ Verdict.Accepted }
 {
     let wide = spread::<P>(soft);
     let branches = branches_of::<P::Code>();
@@ -50,8 +51,8 @@ pub fn check<P: Plan>(soft: &Soft, message: &Bits, potentials: &Potentials) -> V
     Verdict::Accepted
 }
 
-/// The first state at which a rule does not hold at step `t`, and the first such rule. A step before the last is first tried at all
-/// states at once, and state by state only where that does not show that all rules hold.
+/// The first state at which a rule does not hold at step `t`, and the first such rule. A step before the last
+/// is first tried at all states at once, and state by state only where that does not show that all rules hold.
 fn failing_at<P: Plan>(
     wide: &Wide,
     message: &Bits,

@@ -1,5 +1,5 @@
-//! The checker of certificates: whether a table of potentials shows that a message is the first-least one, by rules alone.
-//! It does not stand on the decoder.
+//! The checker of certificates: whether a table of potentials shows that a message is the first-least
+//! one, by rules alone. It does not stand on the decoder.
 #![tactic(auto)]
 
 mod checking;

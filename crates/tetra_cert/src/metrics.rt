@@ -7,8 +7,8 @@ ghost use Rattle.tetra_puncture.specs.Plan.{IsMessage};
 use tetra_bits::{Bits, Soft, cost};
 use tetra_puncture::{Plan, keep};
 
-/// The metric of `message` (`STEPS - 4` bits) over the received values `soft` (`SENT` of them): the sum of the costs of the
-/// bits of its sent word, at most 127 for each. This project's own.
+/// The metric of `message` (`STEPS - 4` bits) over the received values `soft` (`SENT` of them): the sum
+/// of the costs of the bits of its sent word, at most 127 for each. This project's own.
 pub fn metric<P: Plan>(soft: &Soft, message: &Bits) -> u32
     requires sound { P.IsSound }
     requires values { length soft.now ≡ P.SENT }

@@ -1,7 +1,7 @@
 // The rules of one step at all states at once.
 //
-// What a branch costs is looked up in two tables, each of the costs of two received values by the bits that they are read as.
-// So each branch cost is computed once.
+// What a branch costs is looked up in two tables, each of the costs of two received values by the bits
+// that they are read as. So each branch cost is computed once.
 ghost use Rattle.std.specs.Prelude.{◌≡◌, ◌<◌, ◌≤◌, ◌+◌, ◌*◌, ℕ, pos, true, false, IsTrue, length, slice_index};
 ghost use Rattle.tetra_bits.specs.Soft.{IsSoft, value_at};
 ghost use Rattle.tetra_mother.specs.Mother.{next_state};
@@ -17,8 +17,8 @@ use tetra_bits::{Bits, Potentials, Wide, cost};
 use tetra_mother::{Mother, next, outs};
 use tetra_puncture::Plan;
 
-/// The outputs of the branches of a code with one bit, by the states before them: output 1 and output 2 as a number, and
-/// output 3 and output 4.
+/// The outputs of the branches of a code with one bit, by the states before them: output 1 and output 2
+/// as a number, and output 3 and output 4.
 #[derive(Drop)]
 pub struct Labels {
     pub first: [u8; 16],
@@ -103,7 +103,9 @@ fn labelled(first: &[u8; 16], second: &[u8; 16], labels: &Labels) -> u32x16
     requires first { (s : ℕ) → s < 16 → slice_index labels.now.first s < 16 }
     requires second { (s : ℕ) → s < 16 → slice_index labels.now.second s < 16 }
     ensures long { length result ≡ 16 }
-    ensures value { (s : ℕ) → s < 16 → slice_index result s ≡ slice_index first.now (slice_index labels.now.first s) + slice_index second.now (slice_index labels.now.second s) }
+    ensures value { (s : ℕ) → s < 16
+        → slice_index result s ≡ slice_index first.now (slice_index labels.now.first s)
+        + slice_index second.now (slice_index labels.now.second s) }
     ensures small { (s : ℕ) → s < 16 → slice_index result s < 512 }
 {
     added(
@@ -144,18 +146,21 @@ fn edges_hold(row: &[u32; 16], costs: u32x16, behind: u32x16) -> bool
     !some_above(u32x16::from_array(*row), sums)
 }
 
-/// Whether no entry of a row is above what an edge gives, with bit 0 and, where `both`, with bit 1: true only where none is.
+/// Whether no entry of a row is above what an edge gives, with bit 0 and, where `both`, with bit 1:
+/// true only where none is.
 fn all_edges_hold(row: &[u32; 16], after: &[u32; 16], zero: u32x16, one: u32x16, both: bool) -> bool
     requires long { (length zero ≡ 16) × (length one ≡ 16) }
     requires small { (s : ℕ) → s < 16 → (slice_index zero s < 512) × (slice_index one s < 512) }
-    ensures zero { IsTrue result → (s : ℕ) → s < 16 → slice_index row.now s ≤ slice_index zero s + slice_index after.now (next_state s false) }
-    ensures one { IsTrue result → IsTrue both → (s : ℕ) → s < 16 → slice_index row.now s ≤ slice_index one s + slice_index after.now (next_state s true) }
+    ensures zero { IsTrue result → (s : ℕ) → s < 16
+        → slice_index row.now s ≤ slice_index zero s + slice_index after.now (next_state s false) }
+    ensures one { IsTrue result → IsTrue both → (s : ℕ) → s < 16
+        → slice_index row.now s ≤ slice_index one s + slice_index after.now (next_state s true) }
 {
     edges_hold(row, zero, behind_zero(after)) && (!both || edges_hold(row, one, behind_one(after)))
 }
 
-/// Whether the entry of the state `path` is the cost of `bit` and the entry that it leads to, and, for bit 1, below the cost of
-/// bit 0 and the entry that this leads to.
+/// Whether the entry of the state `path` is the cost of `bit` and the entry that it leads to, and, for
+/// bit 1, below the cost of bit 0 and the entry that this leads to.
 fn path_holds(
     row: &[u32; 16],
     after: &[u32; 16],
@@ -165,9 +170,12 @@ fn path_holds(
     bit: bool,
 ) -> bool
     requires { path < 16 }
-    ensures zero { IsTrue result → bit ≡ false → slice_index row.now path ≡ slice_index zero.now path + slice_index after.now (next_state path false) }
-    ensures one { IsTrue result → bit ≡ true → slice_index row.now path ≡ slice_index one.now path + slice_index after.now (next_state path true) }
-    ensures tie { IsTrue result → bit ≡ true → slice_index row.now path < slice_index zero.now path + slice_index after.now (next_state path false) }
+    ensures zero { IsTrue result → bit ≡ false
+        → slice_index row.now path ≡ slice_index zero.now path + slice_index after.now (next_state path false) }
+    ensures one { IsTrue result → bit ≡ true
+        → slice_index row.now path ≡ slice_index one.now path + slice_index after.now (next_state path true) }
+    ensures tie { IsTrue result → bit ≡ true
+        → slice_index row.now path < slice_index zero.now path + slice_index after.now (next_state path false) }
 {
     let at = usize::from(path);
     let entry = u64::from(row[at]);
@@ -179,8 +187,8 @@ fn path_holds(
     entry == by_one && entry < by_zero
 }
 
-/// Whether the rules of step `t` hold at all states, where the message passes the state `path` before that step: true only where
-/// they do.
+/// Whether the rules of step `t` hold at all states, where the message passes the state `path` before
+/// that step: true only where they do.
 pub fn step_holds<P: Plan>(
     wide: &Wide,
     message: &Bits,

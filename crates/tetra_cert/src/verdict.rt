@@ -6,7 +6,7 @@ use tetra_puncture::Rule;
 pub enum Verdict {
     /// All rules hold.
     Accepted,
-    /// The first rule that does not hold, in the order of step, state, and then `End`, `Edge0`, `Edge1`, `Path`, `Tie`. Steps
-    /// and states count from 0.
+    /// The first rule that does not hold, in the order of step, state, and then `End`, `Edge0`,
+    /// `Edge1`, `Path`, `Tie`. Steps and states count from 0.
     Refused { step: u16, state: u8, rule: Rule },
 }

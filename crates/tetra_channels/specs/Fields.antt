@@ -21,8 +21,8 @@ pub record IsMarked (par : ℕ) (mark : Mark) (message : List Bool) : Type 0 whe
   pub unchecked : (mark ≡ Unchecked) ↔ (par ≢ 16)
   pub here : mark ≢ NotYet
 
--- the reading of a field of a coded channel over type-3 values: the first-least message of its code, which parity has no
--- part in, its metric, and the costs to go
+-- the reading of a field of a coded channel over type-3 values: the first-least message of its code,
+-- which parity has no part in, its metric, and the costs to go
 unfoldable pub coded_reading : ℕ → CodePlan → List ℤ → Reading
 coded_reading par p soft =
     record {

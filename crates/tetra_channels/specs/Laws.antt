@@ -22,12 +22,15 @@ written_reading par p block soft =
 -- values that have the signs of the type-5 bits of a block are read as that block
 abbrev pub UndamagedIsRead : ℕ → ℕ → ℕ → CodePlan → Type 0
 UndamagedIsRead par a inv p =
-    (key block : List Bool) (soft : List ℤ) → length block + par + 4 ≡ p.steps → IsUndamaged (type5_bits par inv p key block) soft
-    → coded_reading par p (front_values p.sent a key soft) ≡ written_reading par p block (front_values p.sent a key soft)
+    (key block : List Bool) (soft : List ℤ) → length block + par + 4 ≡ p.steps
+    → IsUndamaged (type5_bits par inv p key block) soft
+    → coded_reading par p (front_values p.sent a key soft)
+    ≡ written_reading par p block (front_values p.sent a key soft)
 
 -- the bits of an uncoded block, without cost
 unfoldable pub written_raw : List Bool → Reading
 written_raw block = record { mark = Unchecked; metric = 0; bits = block; potentials = None }
 
 abbrev pub UndamagedRawIsRead : Type 0
-UndamagedRawIsRead = (key block : List Bool) (soft : List ℤ) → IsUndamaged (raw_bits key block) soft → raw_reading (turned soft key 1) ≡ written_raw block
+UndamagedRawIsRead = (key block : List Bool) (soft : List ℤ) → IsUndamaged (raw_bits key block) soft
+    → raw_reading (turned soft key 1) ≡ written_raw block

@@ -15,8 +15,9 @@ use tetra_puncture::{Plan, TwoThirds, keep};
 use tetra_scramble::{Key, flip_bits, flip_soft};
 use tetra_trellis::solve_into;
 
-/// A coded channel (EN 300 392-2 clause 8): `PAR` parity bits, 16 or none, the plan `P` of its code, which sends `K3` bits, and the block
-/// interleaver (`K3`, `A`) with `A INV mod K3 = 1`. A block has `STEPS - PAR - 4` bits, a list of received values `K3`.
+/// A coded channel (EN 300 392-2 clause 8): `PAR` parity bits, 16 or none, the plan `P` of its code,
+/// which sends `K3` bits, and the block interleaver (`K3`, `A`) with `A INV mod K3 = 1`. A block has
+/// `STEPS - PAR - 4` bits, a list of received values `K3`.
 pub struct Coded<const PAR: usize, const K3: usize, const A: usize, const INV: usize, P> {
     plan: PhantomData<P>,
 }
@@ -87,8 +88,8 @@ impl<const PAR: usize, const K3: usize, const A: usize, const INV: usize, P: Pla
     }
 
     /// What is read over `K3` values in the order of type-3 bits: the first-least message of the code, its metric, and
-    /// the costs to go. The mark is Good where parity holds on the message, else Bad, and Unchecked where the channel has
-    /// no parity; parity plays no part in the choice.
+    /// the costs to go. The mark is Good where parity holds on the message, else Bad, and Unchecked
+    /// where the channel has no parity; parity plays no part in the choice.
     pub fn decode3(soft: &Soft) -> Reading
         requires channel { IsChannel P.IsSound PAR K3 A INV P.plan }
         requires size { length soft.now ≡ K3 }
@@ -119,8 +120,8 @@ impl<const PAR: usize, const K3: usize, const A: usize, const INV: usize, P: Pla
         reading.mark = mark::<PAR>(&reading.bits);
     }
 
-    /// Values that have the signs of the type-5 bits of a block, none of them 0, are read as that block with its parity,
-    /// with metric 0 and, where the channel has parity, Good.
+    /// Values that have the signs of the type-5 bits of a block, none of them 0, are read as that block
+    /// with its parity, with metric 0 and, where the channel has parity, Good.
     pub fn undamaged_is_read()
         requires { IsChannel P.IsSound PAR K3 A INV P.plan }
         ensures { UndamagedIsRead PAR A INV P.plan }

@@ -1,5 +1,5 @@
-// What no clause says: the type-3 bits of a block of zeros, written out, whose parity is 0111 1101 0111 0100. And each call
-// once, on blocks that go out and come back.
+// What no clause says: the type-3 bits of a block of zeros, written out, whose parity
+// is 0111 1101 0111 0100. And each call once, on blocks that go out and come back.
 ghost use Rattle.std.specs.Prelude.{◌≡◌, ◌≤◌, length};
 
 use crate::{Bsch, Full, Raw72};

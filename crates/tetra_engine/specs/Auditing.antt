@@ -39,7 +39,8 @@ refused_by slot verdict = slot ∷ []
 abbrev pub refused_slots : Settings → List Claimed → List Claimed → List ℕ
 refused_slots settings before [] = []
 refused_slots settings before (input ∷ inputs) =
-    refused_by (length before) (verdict_at settings before input) ++ refused_slots settings (before ++ input ∷ []) inputs
+    refused_by (length before) (verdict_at settings before input)
+    ++ refused_slots settings (before ++ input ∷ []) inputs
 
 -- the status at the end, by the slots that were refused
 abbrev pub audit_status : List ℕ → Status

@@ -18,7 +18,8 @@ framed Audit slot bytes = slot ++ bytes
 -- what is written for a slot behind those before it
 abbrev pub decoded : Settings → List (List ℕ) → List ℕ → List ℕ
 decoded settings before slot =
-    framed settings.form slot (reading_spelling settings.form (slot_reading settings (map soft_values before) (soft_values slot)))
+    framed settings.form slot
+    (reading_spelling settings.form (slot_reading settings (map soft_values before) (soft_values slot)))
 
 -- an input is a slot of 510 bytes whose letter is built
 abbrev pub decoding : Settings → Shape (List ℕ)

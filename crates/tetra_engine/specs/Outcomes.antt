@@ -11,10 +11,12 @@ use Rattle.tetra_engine.specs.Shapes.{Shape, AreInputs, spellings, outputs, NoIn
 -- how a run ends where the cut has these inputs and these bytes are behind it
 abbrev pub Closes : {X : Type 0} → Shape X → ℕ → List X → List ℕ → Status → Type 0
 Closes shape max xs [] status = status ≡ shape.done xs
-Closes shape max xs (b ∷ rest) status = MatchBool (length xs == max) (status ≡ TooLong) (shape.Stops xs (b ∷ rest) status)
+Closes shape max xs (b ∷ rest) status =
+    MatchBool (length xs == max) (status ≡ TooLong) (shape.Stops xs (b ∷ rest) status)
 
 -- The end of a run over these bytes in which no read and no write failed. Took says which bytes the sink took.
-pub record Outcome {X : Type 0} (shape : Shape X) (max : ℕ) (bytes : List ℕ) (Took : List ℕ → Type 0) (end : End) : Type 0 where
+pub record Outcome {X : Type 0} (shape : Shape X) (max : ℕ) (bytes : List ℕ)
+    (Took : List ℕ → Type 0) (end : End) : Type 0 where
   pub xs : List X
   pub rest : List ℕ
   pub cut : IsCut shape max bytes xs rest
@@ -24,10 +26,12 @@ pub record Outcome {X : Type 0} (shape : Shape X) (max : ℕ) (bytes : List ℕ)
 
 -- these bytes are none, or begin no input behind these for want of more
 abbrev pub IsPart : {X : Type 0} → Shape X → List X → List ℕ → Type 0
-IsPart shape before part = (part ≡ []) ⊎ (NoInput shape before part × shape.Stops before part (Input (length before) Truncated))
+IsPart shape before part =
+    (part ≡ []) ⊎ (NoInput shape before part × shape.Stops before part (Input (length before) Truncated))
 
 -- the end of a run in which a read failed, over the bytes that came
-pub record ReadFront {X : Type 0} (shape : Shape X) (max : ℕ) (Took : List ℕ → Type 0) (end : End) (came : List ℕ) : Type 0 where
+pub record ReadFront {X : Type 0} (shape : Shape X) (max : ℕ)
+    (Took : List ℕ → Type 0) (end : End) (came : List ℕ) : Type 0 where
   pub xs : List X
   pub part : List ℕ
   pub cut : IsCut shape max came xs part
@@ -42,7 +46,8 @@ IsFrontOfNext {X} shape max xs rest front =
     × (rest ≡ shape.spelling x ++ more) × (k < length (shape.out xs x)) × (front ≡ take k (shape.out xs x)))
 
 -- the end of a run over these bytes in which a write or the flush failed
-pub record WriteFront {X : Type 0} (shape : Shape X) (max : ℕ) (bytes : List ℕ) (Took : List ℕ → Type 0) (end : End) : Type 0 where
+pub record WriteFront {X : Type 0} (shape : Shape X) (max : ℕ) (bytes : List ℕ)
+    (Took : List ℕ → Type 0) (end : End) : Type 0 where
   pub xs : List X
   pub rest : List ℕ
   pub front : List ℕ
@@ -72,7 +77,8 @@ Grows (Some xs) None bytes = ⊤
 Grows (Some xs) (Some ys) bytes = ys ≡ xs ++ bytes
 
 -- how a run over a shape ends, by its status
-abbrev pub EndsBy : {X : Type 0} → Status → Shape X → ℕ → Option (List ℕ) → Option (List ℕ) → (List ℕ → Type 0) → End → Type 0
+abbrev pub EndsBy : {X : Type 0} → Status → Shape X → ℕ
+    → Option (List ℕ) → Option (List ℕ) → (List ℕ → Type 0) → End → Type 0
 EndsBy Read shape max old new Took end = Came old new (ReadFront shape max Took end)
 EndsBy Write shape max old new Took end = ToldBoth old new (λ bytes. WriteFront shape max bytes Took end)
 EndsBy status shape max old new Took end = IfSome old (λ bytes. Outcome shape max bytes Took end)

@@ -42,7 +42,8 @@ CommandEnds command settings rest0 rest1 taken0 taken1 end = Unit {0}
 -- the end of a run whose words pass and are built
 abbrev pub EndsBuilt : Bool → Command → Settings
     → Option (List ℕ) → Option (List ℕ) → Option (List ℕ) → Option (List ℕ) → End → Type 0
-EndsBuilt true command settings rest0 rest1 taken0 taken1 end = CommandEnds command settings rest0 rest1 taken0 taken1 end
+EndsBuilt true command settings rest0 rest1 taken0 taken1 end =
+    CommandEnds command settings rest0 rest1 taken0 taken1 end
 EndsBuilt false command settings rest0 rest1 taken0 taken1 end = Unit {0}
 
 abbrev pub Ends : Result (Command × Settings) WordFault

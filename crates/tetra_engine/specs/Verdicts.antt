@@ -17,7 +17,8 @@ rule_text Tie = codes "tie"
 abbrev pub field_text : FieldWhy → List ℕ
 field_text Pad = codes "pad"
 field_text Bits = codes "bits"
-field_text (Cert step state rule) = codes "step " ++ decimal step ++ codes " state " ++ decimal state ++ codes " " ++ rule_text rule
+field_text (Cert step state rule) =
+    codes "step " ++ decimal step ++ codes " state " ++ decimal state ++ codes " " ++ rule_text rule
 field_text Metric = codes "metric"
 field_text Mark = codes "mark"
 

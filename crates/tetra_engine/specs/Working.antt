@@ -63,7 +63,8 @@ end_by More status slots = record { status = TooLong; slots = slots }
 end_by Fault status slots = record { status = Read; slots = slots }
 
 -- inputs were read and their outputs written
-pub record Ran {X : Type 0} (shape : Shape X) (max slots : ℕ) (xs : List X) (rest0 rest1 taken0 taken1 : Option (List ℕ)) : Type 0 where
+pub record Ran {X : Type 0} (shape : Shape X) (max slots : ℕ) (xs : List X)
+    (rest0 rest1 taken0 taken1 : Option (List ℕ)) : Type 0 where
   pub slots_is : slots ≡ length xs
   pub few : length xs ≤ max
   pub each : AreInputs shape [] xs
@@ -71,7 +72,9 @@ pub record Ran {X : Type 0} (shape : Shape X) (max slots : ℕ) (xs : List X) (r
   pub wrote : Appends taken0 taken1 (outputs shape [] xs)
 
 -- some inputs were read and written, and the work stands for them
-pub record Driven {W X : Type 0} (Stands : W → List X → Type 0) (shape : Shape X) (work : W) (Same : Type 0) (max slots : ℕ) (rest0 rest1 taken0 taken1 : Option (List ℕ)) (src0 src1 sink0 sink1 : ℕ) : Type 0 where
+pub record Driven {W X : Type 0} (Stands : W → List X → Type 0) (shape : Shape X) (work : W)
+    (Same : Type 0) (max slots : ℕ) (rest0 rest1 taken0 taken1 : Option (List ℕ))
+    (src0 src1 sink0 sink1 : ℕ) : Type 0 where
   pub xs : List X
   pub stands : Stands work xs
   pub settings : Same

@@ -17,8 +17,8 @@ use tetra_records::RecordFault;
 use tetra_session::{Front, Receiver, is_built_letter};
 use tetra_settings::Settings;
 
-/// An audit: the slot that was read last with the record that is claimed for it, what a receiver takes from the slot, and
-/// potentials into which certificates are read.
+/// An audit: the slot that was read last with the record that is claimed for it, what a receiver takes
+/// from the slot, and potentials into which certificates are read.
 #[derive(Drop)]
 pub struct Auditor {
     settings: Settings,

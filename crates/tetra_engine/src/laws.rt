@@ -21,8 +21,8 @@ pub fn one_end()
     ensures audit { (settings : Settings) → OneEnd (auditing settings) }
 {}
 
-/// What decoding wrote with certificates is accepted: an audit of it under the same settings, with any greatest number of
-/// slots that is not below theirs, ends Done and writes `ok` for each.
+/// What decoding wrote with certificates is accepted: an audit of it under the same settings, with any
+/// greatest number of slots that is not below theirs, ends Done and writes `ok` for each.
 pub fn decoded_agrees()
     ensures { DecodedAgrees }
 {}

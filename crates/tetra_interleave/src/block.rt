@@ -6,8 +6,9 @@ ghost use Rattle.tetra_interleave.specs.Steps.{step_entry};
 
 use tetra_bits::{Bits, Soft};
 
-/// The block interleaver of `K` entries, EN 300 392-2 clause 8.2.4: entry i goes to place `1 + (A i mod K)`, for i from 1
-/// to `K`. `K` is at most 432, `A` and `INV` are below `K`, and `A INV mod K` is 1. Each list has `K` entries.
+/// The block interleaver of `K` entries, EN 300 392-2 clause 8.2.4: entry i goes to place
+/// `1 + (A i mod K)`, for i from 1 to `K`. `K` is at most 432, `A` and `INV` are below `K`, and
+/// `A INV mod K` is 1. Each list has `K` entries.
 pub struct Block<const K: usize, const A: usize, const INV: usize>;
 
 impl<const K: usize, const A: usize, const INV: usize> Block<K, A, INV> {

@@ -23,7 +23,12 @@ WriteFails s len = Contains s.fail_at (next_count s.calls) ⊎ ((0 < len) × (s.
 
 -- a sink after a write
 abbrev pub after_write : {E : Type 0} → MemSinkState → Result ℕ E → List ℕ → MemSinkState
-after_write s (Ok n) bytes = record s { taken = s.taken ++ take n bytes; room = s.room - n; calls = next_count s.calls; settled = settled_behind n s.settled }
+after_write s (Ok n) bytes = record s {
+  taken = s.taken ++ take n bytes;
+  room = s.room - n;
+  calls = next_count s.calls;
+  settled = settled_behind n s.settled;
+}
 after_write s (Err e) bytes = record s { calls = next_count s.calls; faults = next_count s.faults }
 
 -- a sink after a flush

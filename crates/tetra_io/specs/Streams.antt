@@ -29,11 +29,15 @@ KeepsOrHides (Some xs) (Some ys) = ys ≡ xs
 
 -- `read(buf)` gave the next n told bytes at `Ok(n)`, none only at the end or with no room, and took nothing at `Err`
 abbrev pub Reads : {E : Type 0} → Option (List ℕ) → Option (List ℕ) → Result ℕ E → List ℕ → Type 0
-Reads old new r buf = MatchResult r (λ n. Consumes old new (take n buf) × (n ≡ 0 → 0 < length buf → IsAtEnd new)) (λ _. KeepsOrHides old new)
+Reads old new r buf = MatchResult r
+    (λ n. Consumes old new (take n buf) × (n ≡ 0 → 0 < length buf → IsAtEnd new))
+    (λ _. KeepsOrHides old new)
 
 -- `write(bytes)` took the first n bytes at `Ok(n)`, none only of an empty piece, and nothing at `Err`
 abbrev pub Writes : {E : Type 0} → Option (List ℕ) → Option (List ℕ) → Result ℕ E → List ℕ → Type 0
-Writes old new r bytes = MatchResult r (λ n. Appends old new (take n bytes) × (0 < length bytes → 0 < n)) (λ _. KeepsOrHides old new)
+Writes old new r bytes = MatchResult r
+    (λ n. Appends old new (take n bytes) × (0 < length bytes → 0 < n))
+    (λ _. KeepsOrHides old new)
 
 -- whether a sink is settled after n bytes were taken
 abbrev pub settled_behind : ℕ → Bool → Bool

@@ -30,7 +30,15 @@ impl<'a> Model for MemSink<'a> {
 
     ghost Value = { MemSinkState };
 
-    ghost view = { λ s. record { taken = take s.used s.room.now; room = length s.room.now - s.used; pieces = s.pieces.now; fail_at = s.fail_at.now; calls = s.calls; faults = s.faults; settled = s.settled } };
+    ghost view = { λ s. record {
+      taken = take s.used s.room.now;
+      room = length s.room.now - s.used;
+      pieces = s.pieces.now;
+      fail_at = s.fail_at.now;
+      calls = s.calls;
+      faults = s.faults;
+      settled = s.settled;
+    } };
 
     ghost invariant = { λ s. s.used ≤ length s.room.now };
 }
@@ -38,7 +46,15 @@ impl<'a> Model for MemSink<'a> {
 impl<'a> MemSink<'a> {
     /// A sink with this room, before its first call. It is not settled.
     pub fn new(room: &'a mut [u8], pieces: &'a [usize], fail_at: &'a [u64]) -> MemSink<'a>
-        ensures { result ≡ record { taken = []; room = length room.old; pieces = pieces.now; fail_at = fail_at.now; calls = 0; faults = 0; settled = false } }
+        ensures { result ≡ record {
+          taken = [];
+          room = length room.old;
+          pieces = pieces.now;
+          fail_at = fail_at.now;
+          calls = 0;
+          faults = 0;
+          settled = false;
+        } }
     {
         MemSink {
             room,

@@ -27,13 +27,25 @@ impl<'a> Model for MemSource<'a> {
 
     ghost Value = { MemSourceState };
 
-    ghost view = { λ s. record { rest = s.rest.now; pieces = s.pieces.now; fail_at = s.fail_at.now; calls = s.calls; faults = s.faults } };
+    ghost view = { λ s. record {
+      rest = s.rest.now;
+      pieces = s.pieces.now;
+      fail_at = s.fail_at.now;
+      calls = s.calls;
+      faults = s.faults;
+    } };
 }
 
 impl<'a> MemSource<'a> {
     /// A source of these bytes, before its first call.
     pub fn new(bytes: &'a [u8], pieces: &'a [usize], fail_at: &'a [u64]) -> MemSource<'a>
-        ensures { result ≡ record { rest = bytes.now; pieces = pieces.now; fail_at = fail_at.now; calls = 0; faults = 0 } }
+        ensures { result ≡ record {
+          rest = bytes.now;
+          pieces = pieces.now;
+          fail_at = fail_at.now;
+          calls = 0;
+          faults = 0;
+        } }
     {
         MemSource {
             rest: bytes,

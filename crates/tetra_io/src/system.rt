@@ -42,7 +42,8 @@ impl<R: Read> Source for StdSource<R> {
     /// One read of the reader, where an `Err` is counted.
     fn read(&mut self, buf: &mut [u8]) -> Result<usize, SourceFault>
         ensures bound { ReadsAtMost result buf.new }
-        ensures bytes { Reads (told_until self.old.faults (R.remaining self.old.reader)) (told_until self.new.faults (R.remaining self.new.reader)) result buf.new }
+        ensures bytes { Reads (told_until self.old.faults (R.remaining self.old.reader))
+            (told_until self.new.faults (R.remaining self.new.reader)) result buf.new }
         ensures cause { HasCause self.old.faults self.new.faults result }
         // The count rises at each `Err`, and at nothing else.
         ensures counted { self.new.faults ≡ count_behind result self.old.faults }
@@ -99,7 +100,8 @@ impl<W: Write> Sink for StdSink<W> {
     /// One write of the writer, where an `Err` is counted, and an `Ok(0)` of a piece that is not empty.
     fn write(&mut self, bytes: &[u8]) -> Result<usize, SinkFault>
         ensures bound { WritesAtMost result bytes.now }
-        ensures taken { Writes (told_until self.old.faults (W.contents self.old.writer)) (told_until self.new.faults (W.contents self.new.writer)) result bytes.now }
+        ensures taken { Writes (told_until self.old.faults (W.contents self.old.writer))
+            (told_until self.new.faults (W.contents self.new.writer)) result bytes.now }
         ensures cause { HasCause self.old.faults self.new.faults result }
         ensures settled { self.new.settled ≡ settled_by_write result self.old.settled }
         // The count rises at each `Err`, and at nothing else.
@@ -121,7 +123,8 @@ impl<W: Write> Sink for StdSink<W> {
 
     /// One flush of the writer, where an `Err` is counted.
     fn flush(&mut self) -> Result<(), SinkFault>
-        ensures taken { KeepsOrHides (told_until self.old.faults (W.contents self.old.writer)) (told_until self.new.faults (W.contents self.new.writer)) }
+        ensures taken { KeepsOrHides (told_until self.old.faults (W.contents self.old.writer))
+            (told_until self.new.faults (W.contents self.new.writer)) }
         ensures cause { HasCause self.old.faults self.new.faults result }
         ensures settled { self.new.settled ≡ settled_by_flush result self.old.settled }
         // The count rises at each `Err`, and at nothing else.

@@ -1,5 +1,6 @@
--- The mother word of a convolutional code of constraint length five, after EN 300 392-2 clause 8.2.3, and its state form.
--- Bits, steps and outputs are numbered from 1. The taps of a code say whether generator i has the term D^j.
+-- The mother word of a convolutional code of constraint length five, after EN 300 392-2 clause 8.2.3,
+-- and its state form. Bits, steps and outputs are numbered from 1. The taps of a code say whether
+-- generator i has the term D^j.
 use Prim.Native.Nat.{zero, suc}
 use Rattle.std.specs.Prelude.{ℕ, ◌+◌, ◌-◌, ◌*◌, ◌/◌, ◌%◌, ◌^◌, Bool, false, not, ◌&&◌, cond, List, slice_index_or, nat_lt, nat_eq}
 
@@ -34,7 +35,9 @@ number b = cond b 1 0
 
 -- the state before step k: the four bits before it, the last one highest
 unfoldable pub state_before : List Bool → ℕ → ℕ
-state_before bits k = 8 * number (bit_back bits k 1) + 4 * number (bit_back bits k 2) + 2 * number (bit_back bits k 3) + number (bit_back bits k 4)
+state_before bits k =
+    8 * number (bit_back bits k 1) + 4 * number (bit_back bits k 2)
+    + 2 * number (bit_back bits k 3) + number (bit_back bits k 4)
 
 -- the state to which bit b leads from state s
 unfoldable pub next_state : ℕ → Bool → ℕ

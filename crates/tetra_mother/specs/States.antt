@@ -7,7 +7,9 @@ use Rattle.tetra_mother.specs.Mother.{bit_back, output, number, state_before, ne
 state_of : Bool → Bool → Bool → Bool → ℕ
 state_of a b c d = 8 * number a + 4 * number b + 2 * number c + number d
 
-seen_state : (x a b c d : Bool) → (seen (state_of a b c d) x 1 ≡ a) × (seen (state_of a b c d) x 2 ≡ b) × (seen (state_of a b c d) x 3 ≡ c) × (seen (state_of a b c d) x 4 ≡ d)
+seen_state : (x a b c d : Bool)
+    → (seen (state_of a b c d) x 1 ≡ a) × (seen (state_of a b c d) x 2 ≡ b)
+    × (seen (state_of a b c d) x 3 ≡ c) × (seen (state_of a b c d) x 4 ≡ d)
 unfolding state_of
 seen_state x true true true true = (refl, refl, refl, refl)
 seen_state x true true true false = (refl, refl, refl, refl)
@@ -27,7 +29,8 @@ seen_state x false false false true = (refl, refl, refl, refl)
 seen_state x false false false false = (refl, refl, refl, refl)
 
 -- a step's output in the state of its four bits before
-pub edge_is_output : (g : ℕ → ℕ → Bool) (bits : List Bool) (k i s : ℕ) (b : Bool) → s ≡ state_before bits k → b ≡ bit_back bits k 0 → edge g s b i ≡ output g bits k i
+pub edge_is_output : (g : ℕ → ℕ → Bool) (bits : List Bool) (k i s : ℕ) (b : Bool)
+    → s ≡ state_before bits k → b ≡ bit_back bits k 0 → edge g s b i ≡ output g bits k i
 unfolding edge output state_of state_before
 edge_is_output g bits k i s b e f =
     let h = seen_state b (bit_back bits k 1) (bit_back bits k 2) (bit_back bits k 3) (bit_back bits k 4) in
@@ -76,10 +79,12 @@ back_more bits k j =
     ∙ ap (λ x. cond x (slice_index_or bits (k - j - 1) false) false) t
 
 -- the state before the next step
-pub next_is_state : (bits : List Bool) (k : ℕ) (s : ℕ) (b : Bool) → s ≡ state_before bits k → b ≡ bit_back bits k 0 → next_state s b ≡ state_before bits (k + 1)
+pub next_is_state : (bits : List Bool) (k : ℕ) (s : ℕ) (b : Bool)
+    → s ≡ state_before bits k → b ≡ bit_back bits k 0 → next_state s b ≡ state_before bits (k + 1)
 unfolding state_of state_before
 next_is_state bits k s b e f =
-    let n = next_of (bit_back bits k 0) (bit_back bits k 1) (bit_back bits k 2) (bit_back bits k 3) (bit_back bits k 4) in
+    let n =
+    next_of (bit_back bits k 0) (bit_back bits k 1) (bit_back bits k 2) (bit_back bits k 3) (bit_back bits k 4) in
     let b1 : bit_back bits (k + 1) 1 ≡ bit_back bits k 0 = back_more bits k 0 in
     let b2 : bit_back bits (k + 1) 2 ≡ bit_back bits k 1 = back_more bits k 1 in
     let b3 : bit_back bits (k + 1) 3 ≡ bit_back bits k 2 = back_more bits k 2 in
@@ -103,4 +108,10 @@ next_small s b h = omega (arith, number_small b)
 pub state_small : (bits : List Bool) (k : ℕ) → state_before bits k < 16
 unfolding state_before
 state_small bits k =
-    omega (arith, number_small (bit_back bits k 1), number_small (bit_back bits k 2), number_small (bit_back bits k 3), number_small (bit_back bits k 4))
+    omega (
+      arith,
+      number_small (bit_back bits k 1),
+      number_small (bit_back bits k 2),
+      number_small (bit_back bits k 3),
+      number_small (bit_back bits k 4),
+    )

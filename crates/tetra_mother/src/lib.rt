@@ -88,7 +88,8 @@ pub fn next(state: u8, bit: bool) -> u8
     requires { state < 16 }
     ensures value { result ≡ next_state state bit }
     ensures small { result < 16 }
-    ensures walks { (bits : List Bool) (k : ℕ) → state ≡ state_before bits k → bit ≡ bit_back bits k 0 → result ≡ state_before bits (k + 1) }
+    ensures walks { (bits : List Bool) (k : ℕ) → state ≡ state_before bits k → bit ≡ bit_back bits k 0
+        → result ≡ state_before bits (k + 1) }
 {
     state / 2 + if bit { 8 } else { 0 }
 }
@@ -100,7 +101,8 @@ pub fn outs<M: Mother>(state: u8, bit: bool) -> [bool; 4]
     ensures outputs { (i : ℕ) → 1 ≤ i → i ≤ M.OUTS → slice_index_or result (i - 1) false ≡ edge M.taps state bit i }
     ensures rest { (i : ℕ) → M.OUTS < i → slice_index_or result (i - 1) false ≡ false }
     ensures size { length result ≡ 4 }
-    ensures word { (bits : List Bool) (k i : ℕ) → state ≡ state_before bits k → bit ≡ bit_back bits k 0 → 1 ≤ i → i ≤ M.OUTS → slice_index_or result (i - 1) false ≡ output M.taps bits k i }
+    ensures word { (bits : List Bool) (k i : ℕ) → state ≡ state_before bits k → bit ≡ bit_back bits k 0
+        → 1 ≤ i → i ≤ M.OUTS → slice_index_or result (i - 1) false ≡ output M.taps bits k i }
 {
     let mut all = [false; 4];
     for i in 0..M::OUTS {

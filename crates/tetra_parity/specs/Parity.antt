@@ -68,4 +68,5 @@ ParityHolds = (block : List Bool) → Holds16 (with_parity16 block)
 
 -- the test is true exactly where parity holds
 abbrev pub TestsParity : Type 0
-TestsParity = (message : List Bool) → (holds16_of message ≡ true → Holds16 message) × (Holds16 message → holds16_of message ≡ true)
+TestsParity = (message : List Bool)
+    → (holds16_of message ≡ true → Holds16 message) × (Holds16 message → holds16_of message ≡ true)

@@ -1,4 +1,5 @@
-// What no clause says: that the generator, the place of the block's bits and the order of the parity are the right ones.
+// What no clause says: that the generator, the place of the block's bits and the order of the parity
+// are the right ones.
 use crate::{add16, holds16};
 use std::process::Abort;
 use tetra_bits::Bits;

@@ -8,7 +8,9 @@ use Rattle.tetra_puncture.specs.Trellis.{over_branch, state_passed}
 -- the lesser of the allowed ways from state s before step t: both bits, but bit 0 alone at the last four steps
 unfoldable pub least_branch : CodePlan → List ℤ → List (List ℕ) → ℕ → ℕ → ℕ
 least_branch p wide table t s =
-    cond (nat_lt (t + 4) p.steps) (min (over_branch p wide table t s false) (over_branch p wide table t s true)) (over_branch p wide table t s false)
+    cond (nat_lt (t + 4) p.steps)
+    (min (over_branch p wide table t s false) (over_branch p wide table t s true))
+    (over_branch p wide table t s false)
 
 -- each row comes from the next, the row behind the last step being 0
 pub record IsBackward (p : CodePlan) (wide : List ℤ) (table : List (List ℕ)) : Type 0 where
@@ -18,4 +20,5 @@ pub record IsBackward (p : CodePlan) (wide : List ℤ) (table : List (List ℕ))
 -- each bit of the message is 0 exactly where bit 0 reaches the entry
 unfoldable pub IsTraced : CodePlan → List ℤ → List (List ℕ) → List Bool → Type 0
 IsTraced p wide table m =
-    (t : ℕ) → t < length m → bit_at m t ≡ not (entry table t (state_passed m t) == over_branch p wide table t (state_passed m t) false)
+    (t : ℕ) → t < length m
+    → bit_at m t ≡ not (entry table t (state_passed m t) == over_branch p wide table t (state_passed m t) false)

@@ -39,7 +39,8 @@ unfolding output
 unfold_output g bits k i = refl
 
 -- an earlier bit is the same
-earlier : (a b : List Bool) (n j : ℕ) → 1 ≤ j → ((k : ℕ) → k < n → get_or a k false ≡ get_or b k false) → bit_back a (n + 1) j ≡ bit_back b (n + 1) j
+earlier : (a b : List Bool) (n j : ℕ) → 1 ≤ j → ((k : ℕ) → k < n → get_or a k false ≡ get_or b k false)
+    → bit_back a (n + 1) j ≡ bit_back b (n + 1) j
 earlier a b n j one same =
     elim (cases_lt j (n + 1)) [
       | inl lt ↦ let t : nat_lt j (n + 1) ≡ true = lt-ltb j (n + 1) lt in
@@ -47,7 +48,8 @@ earlier a b n j one same =
       | inr le ↦ let t : nat_lt j (n + 1) ≡ false = le-ltb j (n + 1) le in rw t
     ]
 
-earlier_two : (a b : List Bool) (n j : ℕ) → 2 ≤ j → ((k : ℕ) → k < n → get_or a k false ≡ get_or b k false) → bit_back a (n + 1 + 1) j ≡ bit_back b (n + 1 + 1) j
+earlier_two : (a b : List Bool) (n j : ℕ) → 2 ≤ j → ((k : ℕ) → k < n → get_or a k false ≡ get_or b k false)
+    → bit_back a (n + 1 + 1) j ≡ bit_back b (n + 1 + 1) j
 earlier_two a b n j one same =
     elim (cases_lt j (n + 1 + 1)) [
       | inl lt ↦ let t : nat_lt j (n + 1 + 1) ≡ true = lt-ltb j (n + 1 + 1) lt in
@@ -77,18 +79,28 @@ back_term g a n one = rw one (and_true (bit_back a (n + 1 + 1) 1) ∙ one_back a
 
 -- the parts of an output two steps on that are not the same yet
 front_two : (g : ℕ → ℕ → Bool) (a b : List Bool) (n i : ℕ) → ((k : ℕ) → k < n → get_or a k false ≡ get_or b k false)
-    → output g a (n + 1 + 1) i ≡ output g b (n + 1 + 1) i → sum2 (term g a (n + 1 + 1) i) 2 ≡ sum2 (term g b (n + 1 + 1) i) 2
+    → output g a (n + 1 + 1) i ≡ output g b (n + 1 + 1) i
+    → sum2 (term g a (n + 1 + 1) i) 2 ≡ sum2 (term g b (n + 1 + 1) i) 2
 unfolding output
 front_two g a b n i same h =
-    let t2 : term g a (n + 1 + 1) i 2 ≡ term g b (n + 1 + 1) i 2 = ap (λ x. x && g i 2) (earlier_two a b n 2 (lit≤ tt) same) in
-    let t3 : term g a (n + 1 + 1) i 3 ≡ term g b (n + 1 + 1) i 3 = ap (λ x. x && g i 3) (earlier_two a b n 3 (lit≤ tt) same) in
-    let t4 : term g a (n + 1 + 1) i 4 ≡ term g b (n + 1 + 1) i 4 = ap (λ x. x && g i 4) (earlier_two a b n 4 (lit≤ tt) same) in
-    let h4 = cancel_right (sum2 (term g a (n + 1 + 1) i) 4) (sum2 (term g b (n + 1 + 1) i) 4) (term g a (n + 1 + 1) i 4) (term g b (n + 1 + 1) i 4) t4 h in
-    let h3 = cancel_right (sum2 (term g a (n + 1 + 1) i) 3) (sum2 (term g b (n + 1 + 1) i) 3) (term g a (n + 1 + 1) i 3) (term g b (n + 1 + 1) i 3) t3 h4 in
-    cancel_right (sum2 (term g a (n + 1 + 1) i) 2) (sum2 (term g b (n + 1 + 1) i) 2) (term g a (n + 1 + 1) i 2) (term g b (n + 1 + 1) i 2) t2 h3
+    let t2 : term g a (n + 1 + 1) i 2 ≡ term g b (n + 1 + 1) i 2 =
+    ap (λ x. x && g i 2) (earlier_two a b n 2 (lit≤ tt) same) in
+    let t3 : term g a (n + 1 + 1) i 3 ≡ term g b (n + 1 + 1) i 3 =
+    ap (λ x. x && g i 3) (earlier_two a b n 3 (lit≤ tt) same) in
+    let t4 : term g a (n + 1 + 1) i 4 ≡ term g b (n + 1 + 1) i 4 =
+    ap (λ x. x && g i 4) (earlier_two a b n 4 (lit≤ tt) same) in
+    let h4 =
+    cancel_right (sum2 (term g a (n + 1 + 1) i) 4) (sum2 (term g b (n + 1 + 1) i) 4)
+    (term g a (n + 1 + 1) i 4) (term g b (n + 1 + 1) i 4) t4 h in
+    let h3 =
+    cancel_right (sum2 (term g a (n + 1 + 1) i) 3) (sum2 (term g b (n + 1 + 1) i) 3)
+    (term g a (n + 1 + 1) i 3) (term g b (n + 1 + 1) i 3) t3 h4 in
+    cancel_right (sum2 (term g a (n + 1 + 1) i) 2) (sum2 (term g b (n + 1 + 1) i) 2)
+    (term g a (n + 1 + 1) i 2) (term g b (n + 1 + 1) i 2) t2 h3
 
 -- two lists that agree before step n + 1 and have one first output there agree at it
-pub first_output : (g : ℕ → ℕ → Bool) (a b : List Bool) (n : ℕ) → g 1 0 ≡ true → ((k : ℕ) → k < n → get_or a k false ≡ get_or b k false)
+pub first_output : (g : ℕ → ℕ → Bool) (a b : List Bool) (n : ℕ) → g 1 0 ≡ true
+    → ((k : ℕ) → k < n → get_or a k false ≡ get_or b k false)
     → output g a (n + 1) 1 ≡ output g b (n + 1) 1 → get_or a n false ≡ get_or b n false
 unfolding output
 first_output g a b n one same h =
@@ -96,27 +108,43 @@ first_output g a b n one same h =
     let t2 : term g a (n + 1) 1 2 ≡ term g b (n + 1) 1 2 = ap (λ x. x && g 1 2) (earlier a b n 2 (lit≤ tt) same) in
     let t3 : term g a (n + 1) 1 3 ≡ term g b (n + 1) 1 3 = ap (λ x. x && g 1 3) (earlier a b n 3 (lit≤ tt) same) in
     let t4 : term g a (n + 1) 1 4 ≡ term g b (n + 1) 1 4 = ap (λ x. x && g 1 4) (earlier a b n 4 (lit≤ tt) same) in
-    let h4 = cancel_right (sum2 (term g a (n + 1) 1) 4) (sum2 (term g b (n + 1) 1) 4) (term g a (n + 1) 1 4) (term g b (n + 1) 1 4) t4 h in
-    let h3 = cancel_right (sum2 (term g a (n + 1) 1) 3) (sum2 (term g b (n + 1) 1) 3) (term g a (n + 1) 1 3) (term g b (n + 1) 1 3) t3 h4 in
-    let h2 = cancel_right (sum2 (term g a (n + 1) 1) 2) (sum2 (term g b (n + 1) 1) 2) (term g a (n + 1) 1 2) (term g b (n + 1) 1 2) t2 h3 in
-    let h1 : term g a (n + 1) 1 0 ≡ term g b (n + 1) 1 0 = cancel_right (sum2 (term g a (n + 1) 1) 1) (sum2 (term g b (n + 1) 1) 1) (term g a (n + 1) 1 1) (term g b (n + 1) 1 1) t1 h2 in
+    let h4 =
+    cancel_right (sum2 (term g a (n + 1) 1) 4) (sum2 (term g b (n + 1) 1) 4)
+    (term g a (n + 1) 1 4) (term g b (n + 1) 1 4) t4 h in
+    let h3 =
+    cancel_right (sum2 (term g a (n + 1) 1) 3) (sum2 (term g b (n + 1) 1) 3)
+    (term g a (n + 1) 1 3) (term g b (n + 1) 1 3) t3 h4 in
+    let h2 =
+    cancel_right (sum2 (term g a (n + 1) 1) 2) (sum2 (term g b (n + 1) 1) 2)
+    (term g a (n + 1) 1 2) (term g b (n + 1) 1 2) t2 h3 in
+    let h1 : term g a (n + 1) 1 0 ≡ term g b (n + 1) 1 0 =
+    cancel_right (sum2 (term g a (n + 1) 1) 1) (sum2 (term g b (n + 1) 1) 1)
+    (term g a (n + 1) 1 1) (term g b (n + 1) 1 1) t1 h2 in
     sym (now_term g a n one) ∙ h1 ∙ now_term g b n one
 
 -- two lists that agree before step n + 1, and have one first and one second output one step later, agree at it
-pub two_outputs : (g : ℕ → ℕ → Bool) (a b : List Bool) (n : ℕ) → g 1 0 ≡ true → g 1 1 ≡ true → g 2 0 ≡ true → g 2 1 ≡ false
+pub two_outputs : (g : ℕ → ℕ → Bool) (a b : List Bool) (n : ℕ)
+    → g 1 0 ≡ true → g 1 1 ≡ true → g 2 0 ≡ true → g 2 1 ≡ false
     → ((k : ℕ) → k < n → get_or a k false ≡ get_or b k false)
-    → output g a (n + 1 + 1) 1 ≡ output g b (n + 1 + 1) 1 → output g a (n + 1 + 1) 2 ≡ output g b (n + 1 + 1) 2 → get_or a n false ≡ get_or b n false
+    → output g a (n + 1 + 1) 1 ≡ output g b (n + 1 + 1) 1 → output g a (n + 1 + 1) 2 ≡ output g b (n + 1 + 1) 2
+    → get_or a n false ≡ get_or b n false
 two_outputs g a b n g10 g11 g20 g21 same h1 h2 =
     let s1 = front_two g a b n 1 same h1 in
     let s2 = front_two g a b n 2 same h2 in
-    let z : term g a (n + 1 + 1) 2 1 ≡ term g b (n + 1 + 1) 2 1 = rw g21 (and_false (bit_back a (n + 1 + 1) 1) ∙ sym (and_false (bit_back b (n + 1 + 1) 1))) in
-    let t0 : term g a (n + 1 + 1) 2 0 ≡ term g b (n + 1 + 1) 2 0 = cancel_right (term g a (n + 1 + 1) 2 0) (term g b (n + 1 + 1) 2 0) (term g a (n + 1 + 1) 2 1) (term g b (n + 1 + 1) 2 1) z s2 in
+    let z : term g a (n + 1 + 1) 2 1 ≡ term g b (n + 1 + 1) 2 1 =
+    rw g21 (and_false (bit_back a (n + 1 + 1) 1) ∙ sym (and_false (bit_back b (n + 1 + 1) 1))) in
+    let t0 : term g a (n + 1 + 1) 2 0 ≡ term g b (n + 1 + 1) 2 0 =
+    cancel_right (term g a (n + 1 + 1) 2 0) (term g b (n + 1 + 1) 2 0)
+    (term g a (n + 1 + 1) 2 1) (term g b (n + 1 + 1) 2 1) z s2 in
     let u0 : term g a (n + 1 + 1) 1 0 ≡ term g b (n + 1 + 1) 1 0 = rw (g10, ← g20) t0 in
-    let t1 : term g a (n + 1 + 1) 1 1 ≡ term g b (n + 1 + 1) 1 1 = cancel_left (term g a (n + 1 + 1) 1 0) (term g b (n + 1 + 1) 1 0) (term g a (n + 1 + 1) 1 1) (term g b (n + 1 + 1) 1 1) u0 s1 in
+    let t1 : term g a (n + 1 + 1) 1 1 ≡ term g b (n + 1 + 1) 1 1 =
+    cancel_left (term g a (n + 1 + 1) 1 0) (term g b (n + 1 + 1) 1 0)
+    (term g a (n + 1 + 1) 1 1) (term g b (n + 1 + 1) 1 1) u0 s1 in
     sym (back_term g a n g11) ∙ t1 ∙ back_term g b n g11
 
 -- an output of a step as a bit of the mother word
-pub output_place : (g : ℕ → ℕ → Bool) (bits : List Bool) (outs k i v : ℕ) → 1 ≤ i → i ≤ outs → v ≡ outs * k + i → mother_bit g outs bits v ≡ output g bits (k + 1) i
+pub output_place : (g : ℕ → ℕ → Bool) (bits : List Bool) (outs k i v : ℕ)
+    → 1 ≤ i → i ≤ outs → v ≡ outs * k + i → mother_bit g outs bits v ≡ output g bits (k + 1) i
 unfolding mother_bit
 output_place g bits outs k i v a b e =
     let d : v - 1 ≡ k * outs + (i - 1) = omega arith in
@@ -146,7 +174,8 @@ pub word_entry : (p : CodePlan) (m : List Bool) (k : ℕ) → k < p.sent → get
 unfolding word
 word_entry p m k h = get_or-numbered (sent_bit p m) p.sent k false h
 
-same_sent_bit : (p : CodePlan) (m n : List Bool) (j : ℕ) → word p m ≡ word p n → 1 ≤ j → j ≤ p.sent → sent_bit p m j ≡ sent_bit p n j
+same_sent_bit : (p : CodePlan) (m n : List Bool) (j : ℕ)
+    → word p m ≡ word p n → 1 ≤ j → j ≤ p.sent → sent_bit p m j ≡ sent_bit p n j
 same_sent_bit p m n j e a b =
     let back : j - 1 + 1 ≡ j = omega arith in
     ap (sent_bit p m) (sym back)
@@ -173,7 +202,8 @@ agree p m n t f e (suc c) l =
       | inr ge ↦
           let same : k ≡ c = omega arith in
           rw same (elim (f c (omega arith)) [
-            | inl one ↦ first_output p.taps (tailed m) (tailed n) c t.g10 before (same_output p m n c 1 (lit≤ tt) (omega (arith, t.outs)) e one)
+            | inl one ↦ first_output p.taps (tailed m) (tailed n) c t.g10 before
+                (same_output p m n c 1 (lit≤ tt) (omega (arith, t.outs)) e one)
             | inr two ↦ two_outputs p.taps (tailed m) (tailed n) c t.g10 t.g11 t.g20 t.g21 before
                 (same_output p m n (c + 1) 1 (lit≤ tt) (omega (arith, t.outs)) e two.1)
                 (same_output p m n (c + 1) 2 (lit≤ tt) t.outs e two.2)

@@ -14,6 +14,7 @@ two_thirds_place j = patterned (1 ∷ 2 ∷ 5 ∷ []) 3 j
 abbrev pub two_thirds : ℕ → ℕ → CodePlan
 two_thirds steps sent = record { taps = quarter; outs = 4; steps = steps; sent = sent; place = two_thirds_place }
 
--- the numbers of rate 2/3 that fit together: an even number of steps from 6 to 288, and three sent bits for each two steps
+-- the numbers of rate 2/3 that fit together: an even number of steps from 6 to 288, and three sent bits
+-- for each two steps
 abbrev pub IsTwoThirds : ℕ → ℕ → Type 0
 IsTwoThirds steps sent = (steps % 2 ≡ 0) × (6 ≤ steps) × (steps ≤ 288) × (2 * sent ≡ 3 * steps)

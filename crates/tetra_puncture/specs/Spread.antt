@@ -22,4 +22,5 @@ spread_values p r = numbered (spread_value p r) (p.outs * p.steps)
 pub record IsSpread (p : CodePlan) (r wide : List ℤ) : Type 0 where
   pub size : length wide ≡ p.outs * p.steps
   pub placed : (j : ℕ) → 1 ≤ j → j ≤ p.sent → value_at wide (p.place j - 1) ≡ value_at r (j - 1)
-  pub rest : (v : ℕ) → 1 ≤ v → v ≤ p.outs * p.steps → ((j : ℕ) → 1 ≤ j → j ≤ p.sent → p.place j ≢ v) → value_at wide (v - 1) ≡ pos 0
+  pub rest : (v : ℕ) → 1 ≤ v → v ≤ p.outs * p.steps → ((j : ℕ) → 1 ≤ j → j ≤ p.sent → p.place j ≢ v)
+      → value_at wide (v - 1) ≡ pos 0

@@ -1,5 +1,6 @@
--- The trellis of a plan: 16 states before each step, and the costs to go. Steps are counted from 0. The values are those
--- at all places of the mother word, 0 where nothing is sent, so that places which are not sent cost nothing.
+-- The trellis of a plan: 16 states before each step, and the costs to go. Steps are counted from 0. The
+-- values are those at all places of the mother word, 0 where nothing is sent, so that places which are
+-- not sent cost nothing.
 use Rattle.std.specs.Prelude.{◌≡◌, ℕ, ◌+◌, ◌*◌, ◌<◌, ◌≤◌, Bool, true, false, List, [], ◌∷◌, length, ℤ}
 use Rattle.tetra_bits.specs.Cost.{cost}
 use Rattle.tetra_bits.specs.Order.{bit_at}

@@ -1,5 +1,5 @@
-//! Puncturing: which bits of a mother word are sent (EN 300 392-2 clause 8.2.3), and what is said of any punctured code:
-//! its first-least message, its costs to go, and the rules that show them.
+//! Puncturing: which bits of a mother word are sent (EN 300 392-2 clause 8.2.3), and what is said of
+//! any punctured code: its first-least message, its costs to go, and the rules that show them.
 #![tactic(auto)]
 
 mod laws;
@@ -19,8 +19,8 @@ pub use sending::keep;
 pub use spreading::spread;
 pub use two_thirds::TwoThirds;
 
-// The clauses say every value. This calls each function once at the smallest plan: a 1 and zeros, whose word is written out,
-// and values at the places that are sent.
+// The clauses say every value. This calls each function once at the smallest plan: a 1 and zeros, whose
+// word is written out, and values at the places that are sent.
 #[cfg(test)]
 mod tests {
     use super::{TwoThirds, keep, spread};

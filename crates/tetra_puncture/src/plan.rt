@@ -4,11 +4,11 @@ ghost use Rattle.tetra_puncture.specs.Plan.{CodePlan, HasSizes, PlacesRise, Plac
 
 use tetra_mother::Mother;
 
-/// A punctured code: a mother code, the number of steps of a message, and the places of the mother word that are sent, in
-/// order (EN 300 392-2 clause 8.2.3).
+/// A punctured code: a mother code, the number of steps of a message, and the places of the mother word
+/// that are sent, in order (EN 300 392-2 clause 8.2.3).
 ///
-/// The laws hold of each sound plan: it has 6 to 292 steps and sends at most 432 bits, its places rise strictly and lie in
-/// the mother word, and different messages have different words.
+/// The laws hold of each sound plan: it has 6 to 292 steps and sends at most 432 bits, its places rise
+/// strictly and lie in the mother word, and different messages have different words.
 pub trait Plan {
     type Code: Mother;
 

@@ -7,8 +7,8 @@ use crate::plan::Plan;
 use tetra_bits::Bits;
 use tetra_mother::{Mother, next, outs};
 
-/// The sent word of `message`, which has `STEPS - 4` bits: of the message and four tail bits 0 behind it, the mother bits
-/// at the places of the plan, `SENT` bits (EN 300 392-2 clause 8.2.3).
+/// The sent word of `message`, which has `STEPS - 4` bits: of the message and four tail bits 0 behind
+/// it, the mother bits at the places of the plan, `SENT` bits (EN 300 392-2 clause 8.2.3).
 pub fn keep<P: Plan>(message: &Bits) -> Bits
     requires sound { P.IsSound }
     requires size { IsMessage P.plan message.now }

@@ -4,8 +4,8 @@ ghost use Rattle.std.specs.Prelude.{◌≡◌};
 use crate::plan::Plan;
 use tetra_mother::Quarter;
 
-/// Rate 2/3 after the mother code of rate 1/4 (EN 300 392-2 clause 8.2.3): of each eight mother bits, the outputs of two
-/// steps, the places 1, 2 and 5 are sent.
+/// Rate 2/3 after the mother code of rate 1/4 (EN 300 392-2 clause 8.2.3): of each eight mother bits,
+/// the outputs of two steps, the places 1, 2 and 5 are sent.
 ///
 /// Sound where `STEPS` is even and from 6 to 288, and `2 SENT = 3 STEPS`.
 pub struct TwoThirds<const STEPS: usize, const SENT: usize>;

@@ -13,13 +13,16 @@ use Rattle.tetra_records.specs.Layouts.{head_bytes, record_bytes}
 abbrev pub TakesLess : Layout → Option (List ℕ) → Option (List ℕ) → Type 0
 TakesLess layout None new = ⊤
 TakesLess layout (Some bytes) None = ⊤
-TakesLess layout (Some bytes) (Some rest) = (part : List ℕ) × (bytes ≡ part ++ rest) × (length part < record_bytes layout part)
+TakesLess layout (Some bytes) (Some rest) =
+    (part : List ℕ) × (bytes ≡ part ++ rest) × (length part < record_bytes layout part)
 
 -- the front of the buffer holds the bytes behind a letter; or they end before, or a read failed
 abbrev pub BehindGives : Layout → Option (List ℕ) → Option (List ℕ) → Result ℕ NextFault → List ℕ → Type 0
-BehindGives layout old new (Ok n) buf = (head_bytes layout ≤ n) × (n ≤ 88) × (n ≡ record_bytes layout (take n buf)) × Consumes old new (take n buf)
+BehindGives layout old new (Ok n) buf =
+    (head_bytes layout ≤ n) × (n ≤ 88) × (n ≡ record_bytes layout (take n buf)) × Consumes old new (take n buf)
 BehindGives layout old new (Err (Source fault)) buf = TakesLess layout old new
-BehindGives layout old new (Err (Bad fault)) buf = (fault ≡ Truncated) × IfSome old (λ bytes. (length bytes < record_bytes layout bytes) × Consumes old new bytes)
+BehindGives layout old new (Err (Bad fault)) buf = (fault ≡ Truncated)
+    × IfSome old (λ bytes. (length bytes < record_bytes layout bytes) × Consumes old new bytes)
 
 -- only a fault of the source comes with a cause
 abbrev pub BehindRose : ℕ → ℕ → Result ℕ NextFault → Type 0

@@ -39,12 +39,14 @@ mask_in layout bytes = mask_behind layout.letter (access_bytes layout.dir) bytes
 
 -- a mask without pad bits that are 1 sends these subslots
 abbrev pub IsSent : Letter → ℕ → Bool → Bool → Type 0
-IsSent C mask first second = (first ≡ first_sent C mask) × (second ≡ second_sent C mask) × (mask ≡ 128 * bit_number first + 64 * bit_number second)
+IsSent C mask first second = (first ≡ first_sent C mask) × (second ≡ second_sent C mask)
+    × (mask ≡ 128 * bit_number first + 64 * bit_number second)
 IsSent letter mask first second = (first ≡ false) × (second ≡ false)
 
 -- the bits of each field, by the bytes behind the letter
 abbrev pub bits_in : Layout → List ℕ → List ℕ
-bits_in layout bytes = field_bits layout.letter layout.mode (first_sent layout.letter (mask_in layout bytes)) (second_sent layout.letter (mask_in layout bytes))
+bits_in layout bytes = field_bits layout.letter layout.mode
+    (first_sent layout.letter (mask_in layout bytes)) (second_sent layout.letter (mask_in layout bytes))
 
 -- the bytes in front of the fields
 abbrev pub head_bytes : Layout → ℕ
@@ -81,4 +83,6 @@ FieldsHavePad (n ∷ ns) bytes = HasPad (take (bytes_for n) bytes) n ⊎ FieldsH
 
 -- a pad bit is 1 in the bytes behind a letter
 abbrev pub RecordHasPad : Layout → List ℕ → Type 0
-RecordHasPad layout bytes = AccessHasPad layout.dir bytes ⊎ MaskHasPad layout.letter (mask_in layout bytes) ⊎ FieldsHavePad (bits_in layout bytes) (drop (head_bytes layout) bytes)
+RecordHasPad layout bytes =
+    AccessHasPad layout.dir bytes ⊎ MaskHasPad layout.letter (mask_in layout bytes)
+    ⊎ FieldsHavePad (bits_in layout bytes) (drop (head_bytes layout) bytes)

@@ -39,7 +39,8 @@ certificate_bytes Audit (Some rows) = table_bytes rows
 -- a field: its mark, its metric, its bits, and its certificate
 unfoldable pub field_bytes : Form → Field → List ℕ
 field_bytes form field =
-    (mark_byte field.reading.mark ∷ two_bytes field.reading.metric) ++ packed field.reading.bits ++ certificate_bytes form field.reading.potentials
+    (mark_byte field.reading.mark ∷ two_bytes field.reading.metric) ++ packed field.reading.bits
+    ++ certificate_bytes form field.reading.potentials
 
 -- a reading: its letter and its fields
 unfoldable pub reading_spelling : Form → SlotReading → List ℕ

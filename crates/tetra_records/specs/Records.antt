@@ -27,7 +27,9 @@ allows_letter settings t letter = is_allowed settings.dir (use_of settings t) le
 abbrev pub why_behind : Settings → ℕ → Option Letter → List ℕ → RecordFault
 why_behind settings t None bytes = UnknownKind
 why_behind settings t (Some letter) bytes =
-    if not (allows_letter settings t letter) then WrongKind else if nat_le (record_bytes (layout_of settings t letter) bytes) (length bytes) then PadBit else Truncated
+    if not (allows_letter settings t letter) then WrongKind
+    else if nat_le (record_bytes (layout_of settings t letter) bytes) (length bytes) then PadBit
+    else Truncated
 
 -- why bytes begin with no record of slot t; nothing at all is a record that was cut off
 unfoldable pub why : Settings → ℕ → List ℕ → RecordFault
@@ -36,7 +38,8 @@ why settings t (byte ∷ bytes) = why_behind settings t (letter_of_byte byte) by
 
 -- no front of the bytes is the record of blocks that slot t may carry
 unfoldable pub NoneBegins : Settings → ℕ → List ℕ → Type 0
-NoneBegins settings t bytes = (blocks : SlotBlocks) (rest : List ℕ) → Fits settings t blocks → bytes ≡ spelling blocks ++ rest → ⊥
+NoneBegins settings t bytes = (blocks : SlotBlocks) (rest : List ℕ)
+    → Fits settings t blocks → bytes ≡ spelling blocks ++ rest → ⊥
 
 -- the bytes that were taken where they begin with no record: the letter, or the whole record, or all of them
 abbrev pub taken_behind : Settings → ℕ → Option Letter → List ℕ → ℕ
@@ -56,16 +59,20 @@ taken settings t Truncated bytes = bytes
 -- told bytes, at least one, begin with no record of slot t, this is why, and so many were taken
 abbrev pub BeginsNone : Settings → ℕ → RecordFault → Option (List ℕ) → Option (List ℕ) → Type 0
 BeginsNone settings t fault old new =
-    IfSome old (λ bytes. (0 < length bytes) × NoneBegins settings t bytes × (why settings t bytes ≡ fault) × Consumes old new (taken settings t fault bytes))
+    IfSome old (λ bytes. (0 < length bytes) × NoneBegins settings t bytes × (why settings t bytes ≡ fault)
+    × Consumes old new (taken settings t fault bytes))
 
 -- told bytes that went are none, or begin with no record of slot t for want of more
 abbrev pub TakesPart : Settings → ℕ → Option (List ℕ) → Option (List ℕ) → Type 0
 TakesPart settings t None new = ⊤
 TakesPart settings t (Some bytes) None = ⊤
-TakesPart settings t (Some bytes) (Some rest) = (part : List ℕ) × (bytes ≡ part ++ rest) × ((part ≡ []) ⊎ (NoneBegins settings t part × (why settings t part ≡ Truncated)))
+TakesPart settings t (Some bytes) (Some rest) =
+    (part : List ℕ) × (bytes ≡ part ++ rest)
+    × ((part ≡ []) ⊎ (NoneBegins settings t part × (why settings t part ≡ Truncated)))
 
 -- what reading the record of slot t gives
-abbrev pub RecordGives : Settings → ℕ → Option (List ℕ) → Option (List ℕ) → Result (Option SlotBlocks) NextFault → Type 0
+abbrev pub RecordGives : Settings → ℕ
+    → Option (List ℕ) → Option (List ℕ) → Result (Option SlotBlocks) NextFault → Type 0
 RecordGives settings t old new (Ok None) = IsAtEnd old × IsAtEnd new × Consumes old new []
 RecordGives settings t old new (Ok (Some blocks)) = Fits settings t blocks × Consumes old new (spelling blocks)
 RecordGives settings t old new (Err (Source fault)) = TakesPart settings t old new
@@ -80,7 +87,8 @@ RecordRose before now (Err (Bad fault)) = Unit {0}
 -- a pad bit is 1 in a record of slot t
 abbrev pub PadBehind : Settings → ℕ → Option Letter → List ℕ → Type 0
 PadBehind settings t None bytes = ⊥
-PadBehind settings t (Some letter) bytes = RecordHasPad (layout_of settings t letter) (take (record_bytes (layout_of settings t letter) bytes) bytes)
+PadBehind settings t (Some letter) bytes = RecordHasPad (layout_of settings t letter)
+    (take (record_bytes (layout_of settings t letter) bytes) bytes)
 
 unfoldable pub HasPadBit : Settings → ℕ → List ℕ → Type 0
 HasPadBit settings t [] = ⊥
@@ -94,4 +102,5 @@ RecordPads settings t old result = Unit {0}
 
 -- blocks that slot t may carry and whose records begin the same bytes are the same
 abbrev pub IsUnambiguous : Settings → Type 0
-IsUnambiguous settings = (t : ℕ) (x y : SlotBlocks) (u v : List ℕ) → Fits settings t x → Fits settings t y → spelling x ++ u ≡ spelling y ++ v → x ≡ y
+IsUnambiguous settings = (t : ℕ) (x y : SlotBlocks) (u v : List ℕ)
+    → Fits settings t x → Fits settings t y → spelling x ++ u ≡ spelling y ++ v → x ≡ y

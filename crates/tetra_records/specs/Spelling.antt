@@ -27,7 +27,8 @@ fields_spelling fields = concat (map packed fields)
 
 -- what is behind the letter
 unfoldable pub behind_letter : SlotBlocks → List ℕ
-behind_letter blocks = access_spelling blocks.aach ++ mask_spelling blocks.body ++ fields_spelling (fields_of blocks.body)
+behind_letter blocks =
+    access_spelling blocks.aach ++ mask_spelling blocks.body ++ fields_spelling (fields_of blocks.body)
 
 -- the record of blocks
 unfoldable pub spelling : SlotBlocks → List ℕ

@@ -58,7 +58,8 @@ pub fn fields_len(bits: &[usize; 3]) -> usize
 /// The AACH, where there is one.
 fn read_access(dir: Dir, head: &[u8]) -> Result<Option<u16>, BadPad>
     requires { access_bytes dir ≤ length head.now }
-    ensures access { IfOk result (λ access. FitsAccess dir access × (access_spelling access ≡ take (access_bytes dir) head.now)) }
+    ensures access { IfOk result (λ access. FitsAccess dir access
+        × (access_spelling access ≡ take (access_bytes dir) head.now)) }
     ensures pad { MatchResult result (λ _. AccessHasPad dir head.now → ⊥) (λ _. AccessHasPad dir head.now) }
 {
     match dir {
@@ -103,8 +104,11 @@ pub struct Fields {
 fn read_fields(bytes: &[u8], a: usize, b: usize, c: usize) -> Result<Fields, BadPad>
     requires few { (a ≤ 432) × (b ≤ 432) × (c ≤ 432) }
     requires size { length bytes.now ≡ fields_bytes (a ∷ b ∷ c ∷ []) }
-    ensures fields { IfOk result (λ f. Lengths (f.a ∷ f.b ∷ f.c ∷ []) (a ∷ b ∷ c ∷ []) × (fields_spelling (f.a ∷ f.b ∷ f.c ∷ []) ≡ bytes.now)) }
-    ensures pad { MatchResult result (λ _. FieldsHavePad (a ∷ b ∷ c ∷ []) bytes.now → ⊥) (λ _. FieldsHavePad (a ∷ b ∷ c ∷ []) bytes.now) }
+    ensures fields { IfOk result (λ f. Lengths (f.a ∷ f.b ∷ f.c ∷ []) (a ∷ b ∷ c ∷ [])
+        × (fields_spelling (f.a ∷ f.b ∷ f.c ∷ []) ≡ bytes.now)) }
+    ensures pad { MatchResult result
+        (λ _. FieldsHavePad (a ∷ b ∷ c ∷ []) bytes.now → ⊥)
+        (λ _. FieldsHavePad (a ∷ b ∷ c ∷ []) bytes.now) }
 {
     let (first, rest) = bytes.split_at((a + 7) / 8);
     let (second, third) = rest.split_at((b + 7) / 8);

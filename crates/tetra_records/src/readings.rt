@@ -16,9 +16,10 @@ use tetra_settings::{Field, Form, SlotReading};
 /// protected data, each with its certificate.
 pub const LONGEST_READING: usize = 18743;
 
-/// The reading record: a letter, and for each field a mark, a metric of two bytes, the bits packed, and in form `Audit` the
-/// certificate of a trellis field, a row of 16 potentials before each step and one behind the last, two bytes each. The
-/// reading is well formed, and each metric and potential is at most 65,535. This project's own.
+/// The reading record: a letter, and for each field a mark, a metric of two bytes, the bits packed, and
+/// in form `Audit` the certificate of a trellis field, a row of 16 potentials before each step and one
+/// behind the last, two bytes each. The reading is well formed, and each metric and potential is at
+/// most 65,535. This project's own.
 pub fn reading_bytes(reading: &SlotReading, form: Form) -> ArrayVec<u8, 18743>
     requires formed { IsWellFormed reading.now }
     requires small { All IsSmall reading.now.fields.items }

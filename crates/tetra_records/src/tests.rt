@@ -7,8 +7,8 @@ use std::alloc::{AllocError, Global};
 use tetra_io::{Source, SureSource};
 use tetra_settings::{Settings, fitting_are_well_formed, read_words};
 
-/// The mode of timeslot 1, the letter of a record of slot 0, the mask of C, the length on the uplink and on the downlink,
-/// 0 where the letter is not allowed, and the number of pad bits without those of the AACH.
+/// The mode of timeslot 1, the letter of a record of slot 0, the mask of C, the length on the uplink and on
+/// the downlink, 0 where the letter is not allowed, and the number of pad bits without those of the AACH.
 const RECORDS: [(&str, u8, u8, usize, usize, usize); 31] = [
     ("sig", b'F', 0, 35, 37, 4),
     ("sig", b'H', 0, 0, 35, 8),

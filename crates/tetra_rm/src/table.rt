@@ -7,9 +7,9 @@ ghost use Rattle.tetra_rm.specs.Access.{access_rows};
 #[derive(Clone, Copy, PartialEq, Eq, Debug)]
 pub struct Rows(pub [u16; 14]);
 
-/// The rows of this project's own access code: row r is the rest of `X^(14 - r) X^15` modulo `X^15 + X^11 + X^10 + X^9
-/// + X^8 + X^7 + X^5 + X^3 + X^2 + X + 1`, highest coefficient first, followed by the bit that gives the message bit and
-/// these an even number of ones.
+/// The rows of this project's own access code: row r is the rest of `X^(14 - r) X^15` modulo
+/// `X^15 + X^11 + X^10 + X^9 + X^8 + X^7 + X^5 + X^3 + X^2 + X + 1`, highest coefficient first, followed by
+/// the bit that gives the message bit and these an even number of ones.
 pub fn own_rows() -> Rows
     ensures { result ≡ access_rows }
 {

@@ -3,8 +3,8 @@ use crate::plain::code::{TRAINING, burst, colour, scrambling, signalling, traffi
 use std::alloc::{AllocError, Global};
 use std::test::Fail;
 
-/// The bytes of a text, in which `54` is byte 54 and `54*00` are 54 bytes 00. `~39` turns the sign of the byte at position
-/// 39 of those before, and `'0_ok` is the line `0 ok` with its newline. The other words are
+/// The bytes of a text, in which `54` is byte 54 and `54*00` are 54 bytes 00. `~39` turns the sign of the
+/// byte at position 39 of those before, and `'0_ok` is the line `0 ok` with its newline. The other words are
 ///
 /// - `key1` and `key2`: the halves of the zero key, a bit 0 as 7F and a bit 1 as 81,
 /// - `n` and `p`: the two training sequences of a normal burst, EN 300 392-2 clause 9.4.4.3.2, likewise,

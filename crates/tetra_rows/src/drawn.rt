@@ -1,5 +1,5 @@
-// No clause says that the code, the certificates and the verdicts are those of the plain sums and rules. Blocks of drawn
-// bits are sent and judged both ways.
+// No clause says that the code, the certificates and the verdicts are those of the plain sums and
+// rules. Blocks of drawn bits are sent and judged both ways.
 use crate::plain::{code, rules};
 use crate::runs::{SURE, run_over};
 use rand_core::utils::NextWord;

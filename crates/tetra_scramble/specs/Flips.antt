@@ -37,4 +37,6 @@ TurnedBack = (x : List ℤ) (key : List Bool) (from : ℕ) → turned (turned x 
 
 -- values that have the signs of bits have, once turned, the signs of the bits with the same key bits added
 abbrev pub StaysUndamaged : Type 0
-StaysUndamaged = (bits : List Bool) (values : List ℤ) (key : List Bool) (from : ℕ) → IsUndamaged bits values → IsUndamaged (flipped bits key from) (turned values key from)
+StaysUndamaged =
+    (bits : List Bool) (values : List ℤ) (key : List Bool) (from : ℕ) → IsUndamaged bits values
+    → IsUndamaged (flipped bits key from) (turned values key from)

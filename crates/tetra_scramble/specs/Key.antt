@@ -1,6 +1,6 @@
--- The scrambling sequence of a colour, EN 300 392-2 clause 8.2.5. Its bits p(1) to p(432) are called the key. Bit p(k) is
--- the sum modulo 2 of p(k - i) over the distances i, where p(0) to p(-29) are the bits e(1) to e(30) of the colour, and
--- p(-30) = p(-31) = 1.
+-- The scrambling sequence of a colour, EN 300 392-2 clause 8.2.5. Its bits p(1) to p(432) are called
+-- the key. Bit p(k) is the sum modulo 2 of p(k - i) over the distances i, where p(0) to p(-29) are the
+-- bits e(1) to e(30) of the colour, and p(-30) = p(-31) = 1.
 use Prim.Native.Nat.{zero, suc}
 use Rattle.std.specs.Prelude.{◌≡◌, ℕ, ◌-◌, ◌≤◌, Bool, true, false, nat_lt, cond, List, [], ◌∷◌, ◌++◌, length}
 use Rattle.tetra_bits.specs.Numbered.{numbered}

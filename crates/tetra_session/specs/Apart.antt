@@ -22,11 +22,14 @@ pub record AgreeOn (c : ℕ) (s z : Settings) : Type 0 where
 abbrev pub SentApart : Type 0
 SentApart =
     (c : ℕ) (s z : Settings) (a b : List SlotBlocks) → AgreeOn c s z → SameOn s.at c a b
-    → (t : ℕ) (d : SlotBlocks) → t < length a → timeslot_of s.at t ≡ c → slot_written s (take t a) (slice_index_or a t d) ≡ slot_written z (take t b) (slice_index_or b t d)
+    → (t : ℕ) (d : SlotBlocks) → t < length a → timeslot_of s.at t ≡ c
+    → slot_written s (take t a) (slice_index_or a t d) ≡ slot_written z (take t b) (slice_index_or b t d)
 
 -- equal slots of a timeslot give equal fronts and equal readings there
 pub record HeardApart : Type 0 where
   pub fronts : (c : ℕ) (s z : Settings) (a b : List (List ℤ)) → AgreeOn c s z → SameOn s.at c a b
-      → (t : ℕ) (d : List ℤ) → t < length a → timeslot_of s.at t ≡ c → slot_front s (take t a) (slice_index_or a t d) ≡ slot_front z (take t b) (slice_index_or b t d)
+      → (t : ℕ) (d : List ℤ) → t < length a → timeslot_of s.at t ≡ c
+      → slot_front s (take t a) (slice_index_or a t d) ≡ slot_front z (take t b) (slice_index_or b t d)
   pub readings : (c : ℕ) (s z : Settings) (a b : List (List ℤ)) → AgreeOn c s z → SameOn s.at c a b
-      → (t : ℕ) (d : List ℤ) → t < length a → timeslot_of s.at t ≡ c → slot_reading s (take t a) (slice_index_or a t d) ≡ slot_reading z (take t b) (slice_index_or b t d)
+      → (t : ℕ) (d : List ℤ) → t < length a → timeslot_of s.at t ≡ c
+      → slot_reading s (take t a) (slice_index_or a t d) ≡ slot_reading z (take t b) (slice_index_or b t d)

@@ -40,7 +40,8 @@ pub record SlotRead (blocks : SlotBlocks) (reading : SlotReading) : Type 0 where
 
 abbrev pub SlotsArrive : Type 0
 SlotsArrive =
-    (settings : Settings) (history : List SlotBlocks) (blocks : SlotBlocks) (earlier : List (List ℤ)) (received : List ℤ)
+    (settings : Settings) (history : List SlotBlocks) (blocks : SlotBlocks)
+    (earlier : List (List ℤ)) (received : List ℤ)
     → IsBuilt settings → Fits settings (length history) blocks → IsBuiltLetter (byte_of (letter_of blocks.body))
     → length earlier ≡ length history → KeepsSlot (slot_written settings history blocks) received
     → SlotRead blocks (slot_reading settings earlier received)

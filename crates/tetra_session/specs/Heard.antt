@@ -53,7 +53,8 @@ fields_heard letter key soft = []
 
 -- the same fields, with what is read of them
 abbrev pub fields_read : Letter → List Bool → List ℤ → List Field
-fields_read F key soft = record { name = Full; reading = coded_reading 16 (two_thirds 288 432) (full_values key soft) } ∷ []
+fields_read F key soft =
+    record { name = Full; reading = coded_reading 16 (two_thirds 288 432) (full_values key soft) } ∷ []
 fields_read T key soft = record { name = D72; reading = raw_reading (raw_values key soft) } ∷ []
 fields_read letter key soft = []
 

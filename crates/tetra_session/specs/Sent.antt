@@ -27,7 +27,8 @@ word_of key mode body = []
 
 -- the slot that follows these
 unfoldable pub slot_written : Settings → List SlotBlocks → SlotBlocks → List ℤ
-slot_written settings history blocks = burst N (word_of (key_of settings.colour) (mode_of settings (length history)) blocks.body)
+slot_written settings history blocks =
+    burst N (word_of (key_of settings.colour) (mode_of settings (length history)) blocks.body)
 
 -- of no timeslot anything is kept: its blocks are spread over no other slots
 pub record SenderStands (settings : Settings) (history : List SlotBlocks) (sender : Sender) : Type 0 where

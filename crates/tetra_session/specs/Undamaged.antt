@@ -19,5 +19,7 @@ pub record KeepsSlot (written received : List ℤ) : Type 0 where
 
 -- where a burst arrives undamaged, the values of its blocks are undamaged, and its kind is the one that was sent
 pub record BurstArrives : Type 0 where
-  pub word : (train : Train) (word : List Bool) (received : List ℤ) → length word ≡ 432 → KeepsSlot (burst train word) received → IsUndamaged word (word_values received)
-  pub kind : (train : Train) (word : List Bool) (received : List ℤ) → KeepsSlot (burst train word) received → kind_of received ≡ train
+  pub word : (train : Train) (word : List Bool) (received : List ℤ) → length word ≡ 432
+      → KeepsSlot (burst train word) received → IsUndamaged word (word_values received)
+  pub kind : (train : Train) (word : List Bool) (received : List ℤ)
+      → KeepsSlot (burst train word) received → kind_of received ≡ train

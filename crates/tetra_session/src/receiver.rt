@@ -44,8 +44,8 @@ impl Receiver {
         }
     }
 
-    /// The letter of the slot whose turn it is, as a byte, by the values of its 510 positions, each from -127 to 127. This
-    /// changes nothing.
+    /// The letter of the slot whose turn it is, as a byte, by the values of its 510 positions, each
+    /// from -127 to 127. This changes nothing.
     pub fn letter(&self, soft: &[i16; 510]) -> u8
         requires { AllSoft soft.now }
         ensures { result ≡ slot_letter self.now.settings self.now.turn soft.now }
@@ -61,8 +61,9 @@ impl Receiver {
         letter_by(slot_use(&self.settings, self.turn), soft)
     }
 
-    /// The letter of the slot whose turn it is, and the soft values of its fields, from the values of its 510 positions,
-    /// each from -127 to 127. The letter is a built one. Each call is one slot; there are at most 16,777,216.
+    /// The letter of the slot whose turn it is, and the soft values of its fields, from the values of
+    /// its 510 positions, each from -127 to 127. The letter is a built one. Each call is one slot;
+    /// there are at most 16,777,216.
     pub fn front(&mut self, soft: &[i16; 510]) -> Front
         requires few { self.old.turn < 16777216 }
         requires soft { AllSoft soft.now }

@@ -43,8 +43,9 @@ impl Sender {
         }
     }
 
-    /// The slot whose turn it is, with these blocks, which fit it and have a built letter: 510 positions, 127 for bit 0,
-    /// -127 for bit 1, 0 where the slot is silent (EN 300 392-2 clauses 8 and 9). There are at most 16,777,216 slots.
+    /// The slot whose turn it is, with these blocks, which fit it and have a built letter: 510
+    /// positions, 127 for bit 0, -127 for bit 1, 0 where the slot is silent (EN 300 392-2 clauses 8
+    /// and 9). There are at most 16,777,216 slots.
     pub fn slot(&mut self, blocks: &SlotBlocks) -> [i8; 510]
         requires few { self.old.turn < 16777216 }
         requires fits { Fits self.old.settings self.old.turn blocks.now }

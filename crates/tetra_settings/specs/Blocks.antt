@@ -82,7 +82,8 @@ Lengths xs ns = ⊥
 
 -- the fields of a body have the lengths of the table
 abbrev pub HasLengths : Mode → Body → Type 0
-HasLengths mode body = Lengths (fields_of body) (field_bits (letter_of body) mode (sends_first body) (sends_second body))
+HasLengths mode body =
+    Lengths (fields_of body) (field_bits (letter_of body) mode (sends_first body) (sends_second body))
 
 abbrev pub IsTrafficMode : Mode → Type 0
 IsTrafficMode Sig = ⊥

@@ -36,7 +36,8 @@ IsNoNumber values text = ⊥
 
 -- a number is outside its range
 abbrev pub IsOutside : Values → List ℕ → Type 0
-IsOutside (Between low high) text = (is_number text ≡ true) × ((digits_value 10 text < low) ⊎ (high < digits_value 10 text))
+IsOutside (Between low high) text =
+    (is_number text ≡ true) × ((digits_value 10 text < low) ⊎ (high < digits_value 10 text))
 IsOutside values text = ⊥
 
 -- another value is not in its table
@@ -58,20 +59,23 @@ Against command earlier word NotHere = IsSomeAnd (key_in word) (λ key. takes_ke
 Against command earlier word Repeated = IsSomeAnd (key_in word) (λ key. IsGiven key earlier)
 Against command earlier word BadNumber = IsSomeAnd (key_in word) (λ key. IsNoNumber (row key).values (value_text word))
 Against command earlier word OutOfRange = IsSomeAnd (key_in word) (λ key. IsOutside (row key).values (value_text word))
-Against command earlier word UnknownValue = IsSomeAnd (key_in word) (λ key. IsUnknown (row key).values (value_text word))
+Against command earlier word UnknownValue =
+    IsSomeAnd (key_in word) (λ key. IsUnknown (row key).values (value_text word))
 Against command earlier word why = ⊥
 
 -- a reason other than NotUplink stands against word i
 abbrev pub StandsAlone : List (List ℕ) → ℕ → WordWhy → Type 0
 StandsAlone words i NoCommand = (words ≡ []) × (i ≡ 0)
 StandsAlone words i UnknownCommand = (0 < length words) × (i ≡ 0) × (command_in words ≡ None)
-StandsAlone words i why = (1 ≤ i) × (i < length words) × IsSomeAnd (command_in words) (λ command. Against command (take i words) (word_at words i) why)
+StandsAlone words i why = (1 ≤ i) × (i < length words)
+    × IsSomeAnd (command_in words) (λ command. Against command (take i words) (word_at words i) why)
 
 -- a timeslot is given `cb`
 abbrev pub GivesCb : List ℕ → Type 0
 GivesCb word = IsSomeAnd (key_in word) (λ key. ((row key).values ≡ Timeslots) × (value_text word ≡ codes "cb"))
 
--- a reason stands against word i: NotUplink where no other stands against any word, the direction is down, and the word gives `cb`
+-- a reason stands against word i: NotUplink where no other stands against any word, the direction is
+-- down, and the word gives `cb`
 abbrev pub Stands : List (List ℕ) → ℕ → WordWhy → Type 0
 Stands words i NotUplink = ((j : ℕ) (why : WordWhy) → StandsAlone words j why → ⊥)
     × ((settings_of words).dir ≡ Dl) × (i < length words) × GivesCb (word_at words i)
@@ -79,7 +83,9 @@ Stands words i why = StandsAlone words i why
 
 -- the reasons in their order
 abbrev pub reasons : List WordWhy
-reasons = NoCommand ∷ UnknownCommand ∷ NotPair ∷ UnknownKey ∷ NotHere ∷ Repeated ∷ BadNumber ∷ OutOfRange ∷ UnknownValue ∷ NotUplink ∷ []
+reasons =
+    NoCommand ∷ UnknownCommand ∷ NotPair ∷ UnknownKey ∷ NotHere
+    ∷ Repeated ∷ BadNumber ∷ OutOfRange ∷ UnknownValue ∷ NotUplink ∷ []
 
 -- the first of a list of which P holds, or none where it holds of none
 abbrev pub IsFirstOf : {X : Type 0} → (X → Type 0) → List X → Option X → Type 0

@@ -19,7 +19,9 @@ use Rattle.tetra_settings.specs.declared.values.Values.TheVariants.{Between, Dir
 use Rattle.tetra_settings.specs.Values.{beside}
 
 abbrev pub commands : List (List ℕ × Command)
-commands = (codes "encode", Encode) ∷ (codes "decode", Decode) ∷ (codes "audit", Audit) ∷ (codes "gen", Gen) ∷ (codes "trial", Trial) ∷ []
+commands =
+    (codes "encode", Encode) ∷ (codes "decode", Decode) ∷ (codes "audit", Audit)
+    ∷ (codes "gen", Gen) ∷ (codes "trial", Trial) ∷ []
 
 unfoldable pub command_of_text : List ℕ → Option Command
 command_of_text text = beside commands text

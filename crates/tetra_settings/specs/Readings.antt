@@ -65,7 +65,8 @@ IsReadLetter letter = Unit {0}
 
 -- a letter as a byte, and names that a slot of this letter has in some mode, with or without an access field in front
 abbrev pub IsRow : ℕ → List FieldName → Type 0
-IsRow byte names = (letter : Letter) × (mode : Mode) × IsReadLetter letter × IsTrafficMode mode × (byte ≡ byte_of letter)
+IsRow byte names =
+    (letter : Letter) × (mode : Mode) × IsReadLetter letter × IsTrafficMode mode × (byte ≡ byte_of letter)
     × ((names ≡ names_of letter mode) ⊎ (names ≡ Aach ∷ names_of letter mode))
 
 -- only protected data is not there yet

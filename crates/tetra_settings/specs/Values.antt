@@ -48,12 +48,17 @@ form_by_text text = beside forms text
 
 -- `0`, or digits of which the first is not 0
 abbrev pub is_number : List ℕ → Bool
-is_number text = if length text == 0 then false else if slice_index text 0 == 48 then length text == 1 else list_all is_ascii_digit text
+is_number text =
+    if length text == 0 then false
+    else if slice_index text 0 == 48 then length text == 1
+    else list_all is_ascii_digit text
 
 -- a number from low to high
 abbrev pub number_value : ℕ → ℕ → List ℕ → Result Value WordWhy
 number_value low high text =
-    if is_number text then (if nat_le low (digits_value 10 text) && nat_le (digits_value 10 text) high then Ok (Number (digits_value 10 text)) else Err OutOfRange) else Err BadNumber
+    if is_number text then (if nat_le low (digits_value 10 text) && nat_le (digits_value 10 text) high
+    then Ok (Number (digits_value 10 text)) else Err OutOfRange)
+    else Err BadNumber
 
 abbrev pub known : Option Value → Result Value WordWhy
 known None = Err UnknownValue

@@ -55,12 +55,16 @@ error_of (Err y) = Some y
 abbrev pub reason_by_key : Command → List (List ℕ) → List ℕ → List ℕ → Option Key → Option WordWhy
 reason_by_key command earlier name value None = Some UnknownKey
 reason_by_key command earlier name value (Some key) =
-    if not (takes_key command key) then Some NotHere else if is_some (given name earlier) then Some Repeated else error_of (value_by (row key).values value)
+    if not (takes_key command key) then Some NotHere
+    else if is_some (given name earlier) then Some Repeated
+    else error_of (value_by (row key).values value)
 
 -- the first reason against a word behind the earlier ones
 abbrev pub reason : Command → List (List ℕ) → List ℕ → Option WordWhy
 reason command earlier word =
-    if is_pair word then reason_by_key command earlier (key_text word) (value_text word) (key_of_text (key_text word)) else Some NotPair
+    if is_pair word
+    then reason_by_key command earlier (key_text word) (value_text word) (key_of_text (key_text word))
+    else Some NotPair
 
 abbrev pub fault_at : ℕ → Option WordWhy → Option WordFault
 fault_at index None = None
@@ -86,12 +90,8 @@ gives_cb word = is_pair word && is_timeslot (key_of_text (key_text word)) && byt
 -- the first word that gives `cb`, of those from an index on
 abbrev pub first_cb : ℕ → List (List ℕ) → Option WordFault
 first_cb index [] = None
-first_cb index (word ∷ words) = if gives_cb word then Some (record { index = index; why = NotUplink }) else first_cb (index + 1) words
-
-abbrev pub value_or : Value → Option (Result Value WordWhy) → Value
-value_or default None = default
-value_or default (Some (Ok value)) = value
-value_or default (Some (Err why)) = default
+first_cb index (word ∷ words) =
+    if gives_cb word then Some (record { index = index; why = NotUplink }) else first_cb (index + 1) words
 
 -- what a text, if there is one, gives a key
 abbrev pub setting_by_text : Key → Option (List ℕ) → Value
@@ -111,7 +111,8 @@ settings_of words = record {
     mnc = number_in (setting_of Mnc words);
     cc = number_in (setting_of Cc words);
   };
-  modes = mode_in (setting_of Ts1 words) ∷ mode_in (setting_of Ts2 words) ∷ mode_in (setting_of Ts3 words) ∷ mode_in (setting_of Ts4 words) ∷ [];
+  modes = mode_in (setting_of Ts1 words) ∷ mode_in (setting_of Ts2 words)
+      ∷ mode_in (setting_of Ts3 words) ∷ mode_in (setting_of Ts4 words) ∷ [];
   at = number_in (setting_of At words);
   max = number_in (setting_of Max words);
   form = form_in (setting_of FormKey words);
@@ -128,11 +129,13 @@ meaning_by_dir command settings dir cb = Ok (command, settings)
 
 abbrev pub meaning_by_fault : Command → List (List ℕ) → Option WordFault → Result (Command × Settings) WordFault
 meaning_by_fault command words (Some fault) = Err fault
-meaning_by_fault command words None = meaning_by_dir command (settings_of words) (settings_of words).dir (first_cb 0 words)
+meaning_by_fault command words None =
+    meaning_by_dir command (settings_of words) (settings_of words).dir (first_cb 0 words)
 
 abbrev pub meaning_by_command : Option Command → List (List ℕ) → Result (Command × Settings) WordFault
 meaning_by_command None words = Err (record { index = 0; why = UnknownCommand })
-meaning_by_command (Some command) words = meaning_by_fault command words (first_fault command (take 1 words) (drop 1 words))
+meaning_by_command (Some command) words =
+    meaning_by_fault command words (first_fault command (take 1 words) (drop 1 words))
 
 -- the command and the settings of the words, or the first faulty word with its first reason
 unfoldable pub meaning : List (List ℕ) → Result (Command × Settings) WordFault

@@ -104,12 +104,13 @@ impl Body {
         }
     }
 
-    /// The body of a letter. `a`, `b` and `c` are its fields in their order, and of `C` those of the subslots, which are
-    /// there where they are sent.
+    /// The body of a letter. `a`, `b` and `c` are its fields in their order, and of `C` those of the
+    /// subslots, which are there where they are sent.
     pub fn from_fields(letter: Letter, sent: (bool, bool), a: Bits, b: Bits, c: Bits) -> Body
         ensures body { result ≡ body_of letter sent.0 sent.1 a b c }
         ensures letter { letter_of result ≡ letter }
-        ensures lengths { (mode : Mode) → Lengths (a ∷ b ∷ c ∷ []) (field_bits letter mode sent.0 sent.1) → HasLengths mode result }
+        ensures lengths { (mode : Mode) → Lengths (a ∷ b ∷ c ∷ []) (field_bits letter mode sent.0 sent.1)
+            → HasLengths mode result }
     {
         match letter {
             Letter::F => Body::Full { block: a },

@@ -16,7 +16,8 @@ branch_output taps outs s b i = cond (nat_lt i outs) (edge taps s b (i + 1)) fal
 
 unfoldable pub branch_label : (ℕ → ℕ → Bool) → ℕ → ℕ → Bool → ℕ
 branch_label taps outs s b =
-    number_of (branch_output taps outs s b 0) (branch_output taps outs s b 1) (branch_output taps outs s b 2) (branch_output taps outs s b 3)
+    number_of (branch_output taps outs s b 0) (branch_output taps outs s b 1)
+    (branch_output taps outs s b 2) (branch_output taps outs s b 3)
 
 -- the labels of the branches with bit b, by state
 unfoldable pub AreLabels : (ℕ → ℕ → Bool) → ℕ → Bool → List ℕ → Type 0
@@ -39,5 +40,6 @@ pub record IsStep (outs : ℕ) (wide : List ℤ) (t : ℕ) (values : List ℤ) :
 -- the costs of four values, by label
 unfoldable pub AreCosts : List ℤ → List ℕ → Type 0
 AreCosts values costs =
-    (a b c d : Bool) →
-    slice_index costs (number_of a b c d) ≡ cost (value_at values 0) a + cost (value_at values 1) b + cost (value_at values 2) c + cost (value_at values 3) d
+    (a b c d : Bool)
+    → slice_index costs (number_of a b c d) ≡ cost (value_at values 0) a + cost (value_at values 1) b
+    + cost (value_at values 2) c + cost (value_at values 3) d

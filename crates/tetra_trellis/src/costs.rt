@@ -25,7 +25,8 @@ pub fn step_values<M: Mother>(wide: &Wide, t: usize) -> [i16; 4]
 /// The costs of two values as the pairs of bits 00, 01, 10 and 11.
 fn pair_costs(a: i16, b: i16) -> [u32; 4]
     requires { IsSoft a × IsSoft b }
-    ensures value { result ≡ (cost a false + cost b false) ∷ (cost a false + cost b true) ∷ (cost a true + cost b false) ∷ (cost a true + cost b true) ∷ [] }
+    ensures value { result ≡ (cost a false + cost b false) ∷ (cost a false + cost b true)
+        ∷ (cost a true + cost b false) ∷ (cost a true + cost b true) ∷ [] }
     ensures small { (i : ℕ) → slice_index result i ≤ 254 }
 {
     let a0 = cost(a, false);

@@ -1,5 +1,5 @@
-//! The trellis decoder: from received soft values the first-least message of a punctured code, its metric, and the costs
-//! to go, which certify it. Nothing here takes memory.
+//! The trellis decoder: from received soft values the first-least message of a punctured code, its
+//! metric, and the costs to go, which certify it. Nothing here takes memory.
 #![tactic(auto)]
 
 ghost use Rattle.std.specs.Prelude.{◌≡◌, ◌≤◌, ◌+◌, length};

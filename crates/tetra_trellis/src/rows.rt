@@ -44,7 +44,9 @@ fn lesser_ways(costs: &[u32; 16], labels: &Labels, after: &[u32; 16]) -> [u32; 1
     requires labels { (s : ℕ) (b : Bool) → s < 16 → label_at labels.now s b < 16 }
     requires small { (w : ℕ) → w < 16 → slice_index costs.now w ≤ 508 }
     requires room { (s : ℕ) → s < 16 → slice_index after.now s ≤ 2 ^ 31 }
-    ensures { (s : ℕ) → s < 16 → slice_index result s ≡ min (by_label costs.now labels.now after.now s false) (by_label costs.now labels.now after.now s true) }
+    ensures { (s : ℕ) → s < 16
+        → slice_index result s ≡ min (by_label costs.now labels.now after.now s false)
+        (by_label costs.now labels.now after.now s true) }
 {
     let mut row = [0; 16];
     for state in 0..16u8 {

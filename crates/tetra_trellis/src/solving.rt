@@ -24,8 +24,8 @@ pub struct Solved {
     pub potentials: Potentials,
 }
 
-/// Fills `message` and `potentials` with those of `Solved`, and answers the metric. What they held before is gone. `soft`
-/// has `SENT` values.
+/// Fills `message` and `potentials` with those of `Solved`, and answers the metric. What they held
+/// before is gone. `soft` has `SENT` values.
 pub fn solve_into<P: Plan>(soft: &Soft, message: &mut Bits, potentials: &mut Potentials) -> u32
     requires sound { P.IsSound }
     requires size { length soft.now ≡ P.SENT }
@@ -47,7 +47,8 @@ pub fn solve_into<P: Plan>(soft: &Soft, message: &mut Bits, potentials: &mut Pot
     potentials.at(0, 0)
 }
 
-/// The first-least message of a plan over received soft values, its metric, and the costs to go. `soft` has `SENT` values.
+/// The first-least message of a plan over received soft values, its metric, and the costs to go. `soft`
+/// has `SENT` values.
 pub fn solve<P: Plan>(soft: &Soft) -> Solved
     requires sound { P.IsSound }
     requires size { length soft.now ≡ P.SENT }

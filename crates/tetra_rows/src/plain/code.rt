@@ -1,4 +1,5 @@
-// SCH/F and TCH/7.2 on the uplink: EN 300 392-2 clauses 8.2, 8.3.1 and 9.4.4. The silent positions are this project's own.
+// SCH/F and TCH/7.2 on the uplink: EN 300 392-2 clauses 8.2, 8.3.1 and 9.4.4. The silent positions are
+// this project's own.
 ghost use Rattle.std.specs.Prelude.{◌<◌};
 
 /// The distances of the scrambling recurrence.

@@ -7,3 +7,4 @@ pub mod Unambiguous
 pub mod Ends
 pub mod Encoded
 pub mod OwnAudits
+pub mod OwnReadings

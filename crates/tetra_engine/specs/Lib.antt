@@ -15,3 +15,4 @@ pub mod Refusals
 pub mod Auditor
 pub mod Running
 pub mod Agreeing
+pub mod Arriving

@@ -1,11 +1,14 @@
 // Laws of the definitions.
 ghost use Rattle.tetra_settings.specs.declared.types.Settings.{Settings};
 ghost use Rattle.tetra_engine.specs.Agreeing.{DecodedAgrees};
+ghost use Rattle.tetra_engine.specs.Arriving.{UndamagedIsDecoded, EncodedIsDecoded};
 ghost use Rattle.tetra_engine.specs.Auditing.{auditing};
 ghost use Rattle.tetra_engine.specs.Decoding.{decoding};
 ghost use Rattle.tetra_engine.specs.Encoding.{encoding};
 ghost use Rattle.tetra_engine.specs.Outcomes.{OneEnd};
 ghost use Rattle.tetra_engine.specs.Shapes.{OneCut};
+
+use tetra_session::slots_arrive;
 
 /// A list of bytes has one cut into block records, one into slots, and one into slots with reading records.
 pub fn one_cut()
@@ -26,3 +29,12 @@ pub fn one_end()
 pub fn decoded_agrees()
     ensures { DecodedAgrees }
 {}
+
+/// What encoding wrote is read back: decoding in form plain, under the same settings with any greatest number of
+/// slots that is not below theirs, ends Done and names the blocks of each slot, where all slots arrive undamaged.
+pub fn encoded_is_decoded()
+    ensures undamaged { UndamagedIsDecoded }
+    ensures as_written { EncodedIsDecoded }
+{
+    slots_arrive();
+}

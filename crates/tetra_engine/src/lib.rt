@@ -20,7 +20,7 @@ mod verdicts;
 mod work;
 
 pub use engine::run;
-pub use laws::{decoded_agrees, one_cut, one_end};
+pub use laws::{decoded_agrees, encoded_is_decoded, one_cut, one_end};
 pub use lines::{exit_code, line};
 pub use rehearsal::rehearse;
 pub use status::{End, Status};

@@ -63,7 +63,7 @@ unfolding raw_values
 raw_size key soft = length-turned (word_values soft) key 1 ∙ word_size soft
 
 -- values that are taken from soft ones are soft
-all_numbered : {X : Type 0} (Holds : X → Type 0) (f : ℕ → X) (n : ℕ) → ((i : ℕ) → Holds (f i)) → All Holds (numbered f n)
+pub all_numbered : {X : Type 0} (Holds : X → Type 0) (f : ℕ → X) (n : ℕ) → ((i : ℕ) → Holds (f i)) → All Holds (numbered f n)
 all_numbered Holds f n each k d within =
     let small : k < n = omega (arith, length-numbered f n) in
     rw (get_or-numbered f n k d small) (each (k + 1))

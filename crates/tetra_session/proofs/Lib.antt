@@ -6,3 +6,4 @@ pub mod Answering
 pub mod ApartLemmas
 pub mod SlotsArriving
 pub mod FieldLemmas
+pub mod Written

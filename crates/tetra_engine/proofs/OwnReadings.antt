@@ -1,0 +1,184 @@
+-- Decoding of slots that encoding wrote.
+use Prim.Native.Nat.{zero, suc}
+use Rattle.std.proofs.Common.{◌≡◌, ℕ, ◌-◌, ◌<◌, ◌≤◌, List, [], ◌∷◌, ◌++◌, length, map, true, false, IsTrue, nat_lt, nat_eq, ℤ, pos, negsuc, arith, refl, sym, ap, subst, ◌∙◌, length-append, append-nil}
+use Rattle.std.proofs.lemmas.Bool.Decides.{nat_tests}
+use Rattle.std.proofs.lemmas.Int.{ints}
+use Rattle.std.proofs.lemmas.List.{length-map}
+use Rattle.std.specs.Bool.{⊤}
+use Rattle.std.specs.List.{concat, flat_map}
+use Rattle.tetra_bits.specs.Soft.{IsSoft, AllSoft, soft_value, value_at}
+use Rattle.tetra_records.specs.Readings.{reading_spelling}
+use Rattle.tetra_session.proofs.Written.{slot_soft, length-slot_written}
+use Rattle.tetra_session.specs.Arrives.{SlotRead, SlotsArrive}
+use Rattle.tetra_session.specs.Built.{is_built_letter, IsBuilt}
+use Rattle.tetra_session.specs.Heard.{letter_heard, slot_letter, slot_reading}
+use Rattle.tetra_session.specs.Sent.{slot_written}
+use Rattle.tetra_session.specs.Undamaged.{Keeps, KeepsSlot}
+use Rattle.tetra_settings.specs.Blocks.{letter_of}
+use Rattle.tetra_settings.specs.Slots.{byte_of, mode_of, use_of}
+use Rattle.tetra_settings.specs.declared.blocks.SlotBlocks.{SlotBlocks}
+use Rattle.tetra_settings.specs.declared.readings.SlotReading.{SlotReading}
+use Rattle.tetra_settings.specs.declared.types.Form.TheVariants.{Plain}
+use Rattle.tetra_settings.specs.declared.types.Settings.{Settings}
+use Rattle.tetra_engine.specs.Arriving.{for_decoding, AreUndamaged, AreRead, UndamagedIsDecoded, EncodedIsDecoded}
+use Rattle.tetra_engine.specs.Decoding.{decoding}
+use Rattle.tetra_engine.specs.Encoding.{encoding}
+use Rattle.tetra_engine.specs.Framing.{is_built_slot}
+use Rattle.tetra_engine.specs.Outcomes.{Outcome}
+use Rattle.tetra_engine.specs.Shapes.{AreInputs, spellings, outputs}
+use Rattle.tetra_engine.specs.Slots.{soft_values, value_byte, slot_bytes}
+
+module _ (settings : Settings) (max : ℕ) where
+  -- neither form nor number of slots has a part in what is read
+  letter_same : (t : ℕ) (soft : List ℤ) → slot_letter (for_decoding settings max) t soft ≡ slot_letter settings t soft
+  unfolding letter_heard use_of mode_of
+  letter_same t soft = refl
+
+  reading_same : (history : List (List ℤ)) (soft : List ℤ) → slot_reading (for_decoding settings max) history soft ≡ slot_reading settings history soft
+  unfolding slot_reading letter_heard use_of mode_of
+  reading_same history soft = refl
+
+  letter_read : (history : List (List ℤ)) (soft : List ℤ) → (slot_reading settings history soft).letter ≡ slot_letter settings (length history) soft
+  unfolding slot_reading
+  letter_read history soft = refl
+
+  -- the readings of slots behind those before
+  readings_of : List (List ℕ) → List (List ℕ) → List SlotReading
+  readings_of before [] = []
+  readings_of before (slot ∷ slots) = slot_reading settings (map soft_values before) (soft_values slot) ∷ readings_of (before ++ slot ∷ []) slots
+
+  spelled : (slots before : List (List ℕ)) → outputs (decoding (for_decoding settings max)) before slots ≡ flat_map (reading_spelling Plain) (readings_of before slots)
+  unfolding readings_of
+  spelled [] before = refl
+  spelled (slot ∷ slots) before =
+      ap (λ reading. reading_spelling Plain reading ++ outputs (decoding (for_decoding settings max)) (before ++ slot ∷ []) slots) (reading_same (map soft_values before) (soft_values slot))
+      ∙ ap (λ rest. reading_spelling Plain (slot_reading settings (map soft_values before) (soft_values slot)) ++ rest) (spelled slots (before ++ slot ∷ []))
+
+  as_they_are : (slots : List (List ℕ)) → concat slots ≡ spellings (decoding (for_decoding settings max)) slots
+  as_they_are [] = refl
+  as_they_are (slot ∷ slots) = ap (λ rest. slot ++ rest) (as_they_are slots)
+
+  module _ (arrive : SlotsArrive) (built : IsBuilt settings) where
+    -- one slot
+    module _ (sent : List SlotBlocks) (blocks : SlotBlocks) (before : List (List ℕ)) (slot : List ℕ) (same : length before ≡ length sent)
+        (fits : (encoding settings).Fits sent blocks) (kept : KeepsSlot (slot_written settings sent blocks) (soft_values slot)) where
+      is_read : SlotRead blocks (slot_reading settings (map soft_values before) (soft_values slot))
+      is_read = arrive settings sent blocks (map soft_values before) (soft_values slot) built fits.0 fits.1 (length-map before soft_values ∙ same) kept
+
+      still_built : IsTrue (is_built_slot (for_decoding settings max) (length before) slot)
+      still_built =
+          let letter : slot_letter (for_decoding settings max) (length before) (soft_values slot) ≡ byte_of (letter_of blocks.body) =
+          letter_same (length before) (soft_values slot)
+          ∙ (ap (λ n. slot_letter settings n (soft_values slot)) (sym (length-map before soft_values))
+          ∙ (sym (letter_read (map soft_values before) (soft_values slot)) ∙ is_read.letter)) in
+          subst (λ byte. IsTrue (is_built_letter byte)) (sym letter) fits.1
+
+    one_more : (sent : List SlotBlocks) (blocks : SlotBlocks) (before : List (List ℕ)) (slot : List ℕ) → length before ≡ length sent → length (before ++ slot ∷ []) ≡ length (sent ++ blocks ∷ [])
+    one_more sent blocks before slot same = omega (arith, length-append before (slot ∷ []), length-append sent (blocks ∷ []))
+
+    many : (all sent : List SlotBlocks) (slots : List (List ℕ)) → AreUndamaged settings sent all slots → length slots ≡ length all
+    many [] sent [] undamaged = refl
+    many [] sent (slot ∷ slots) undamaged = absurd undamaged
+    many (blocks ∷ all) sent [] undamaged = absurd undamaged
+    many (blocks ∷ all) sent (slot ∷ slots) undamaged = ap (λ n. suc n) (many all (sent ++ blocks ∷ []) slots undamaged.1)
+
+    inputs : (all sent : List SlotBlocks) (slots before : List (List ℕ)) → length before ≡ length sent → AreInputs (encoding settings) sent all → AreUndamaged settings sent all slots
+        → AreInputs (decoding (for_decoding settings max)) before slots
+    inputs [] sent [] before same each undamaged = tt
+    inputs [] sent (slot ∷ slots) before same each undamaged = absurd undamaged
+    inputs (blocks ∷ all) sent [] before same each undamaged = absurd undamaged
+    inputs (blocks ∷ all) sent (slot ∷ slots) before same each undamaged = (
+      (undamaged.0.0, still_built sent blocks before slot same each.0 undamaged.0.1),
+      inputs all (sent ++ blocks ∷ []) slots (before ++ slot ∷ []) (one_more sent blocks before slot same) each.1 undamaged.1,
+    )
+
+    read : (all sent : List SlotBlocks) (slots before : List (List ℕ)) → length before ≡ length sent → AreInputs (encoding settings) sent all → AreUndamaged settings sent all slots
+        → AreRead all (readings_of before slots)
+    unfolding readings_of
+    read [] sent [] before same each undamaged = tt
+    read [] sent (slot ∷ slots) before same each undamaged = absurd undamaged
+    read (blocks ∷ all) sent [] before same each undamaged = absurd undamaged
+    read (blocks ∷ all) sent (slot ∷ slots) before same each undamaged = (
+      is_read sent blocks before slot same each.0 undamaged.0.1,
+      read all (sent ++ blocks ∷ []) slots (before ++ slot ∷ []) (one_more sent blocks before slot same) each.1 undamaged.1,
+    )
+
+no_more : (slot rest : List ℕ) → length slot ≡ 510 → [] ≡ slot ++ rest → ⊥
+no_more slot rest size e = absurd (omega (arith, ap length e, length-append slot rest))
+
+pub undamaged_is_decoded : SlotsArrive → UndamagedIsDecoded
+undamaged_is_decoded arrive settings max bytes end ran received built few undamaged =
+    let all : length received ≡ length ran.xs = many settings max arrive built ran.xs [] received undamaged in
+    record {
+      xs = received;
+      rest = [];
+      cut = record {
+        whole = as_they_are settings max received ∙ sym (append-nil (spellings (decoding (for_decoding settings max)) received));
+        each = inputs settings max arrive built ran.xs [] received [] refl ran.cut.each undamaged;
+        few = omega (arith, all, ran.slots);
+        longest = λ below slot rest fits e. no_more slot rest fits.0 e;
+      };
+      closes = refl;
+      slots = ran.slots ∙ sym all;
+      output = record {
+        readings = readings_of settings max [] received;
+        read = read settings max arrive built ran.xs [] received [] refl ran.cut.each undamaged;
+        spelled = spelled settings max received [];
+      };
+    }
+
+-- what is written is read as it was written
+keeps_itself : (v : ℤ) → Keeps v v
+keeps_itself (pos zero) = tt
+keeps_itself (pos (suc n)) = omega arith
+keeps_itself (negsuc n) = tt
+
+-- a soft value is read from its own byte
+value_back : (v : ℤ) → IsSoft v → soft_value (value_byte v) ≡ v
+value_back (pos n) soft =
+    let below : n < 128 = omega (arith, ints, soft.1) in
+    let low : nat_lt n 128 ≡ true = grind (arith, nat_tests) in
+    rw low refl
+value_back (negsuc n) soft =
+    let above : n ≤ 126 = omega (arith, ints, soft.0) in
+    let low : nat_lt (255 - n) 128 ≡ false = grind (arith, nat_tests) in
+    let edge : nat_eq (255 - n) 128 ≡ false = grind (arith, nat_tests) in
+    let same : 255 - (255 - n) ≡ n = omega arith in
+    rw (low, edge, same) refl
+
+slot_back : (values : List ℤ) → AllSoft values → soft_values (slot_bytes values) ≡ values
+slot_back [] soft = refl
+slot_back (v ∷ values) soft =
+    ap (λ x. x ∷ soft_values (slot_bytes values)) (value_back v (soft 0 v (omega arith)))
+    ∙ ap (λ rest. v ∷ rest) (slot_back values (λ k d within. soft (suc k) d (omega arith)))
+
+kept : (settings : Settings) (history : List SlotBlocks) (blocks : SlotBlocks)
+    → KeepsSlot (slot_written settings history blocks) (soft_values (slot_bytes (slot_written settings history blocks)))
+kept settings history blocks =
+    let slot : List ℤ = slot_written settings history blocks in
+    subst (KeepsSlot slot) (sym (slot_back slot (slot_soft settings history blocks))) (record { keeps = λ k within. keeps_itself (value_at slot k) })
+
+long : (settings : Settings) (history : List SlotBlocks) (blocks : SlotBlocks) → length (slot_bytes (slot_written settings history blocks)) ≡ 510
+long settings history blocks = length-map (slot_written settings history blocks) value_byte ∙ length-slot_written settings history blocks
+
+-- the slots that are written for blocks behind those before
+slots_for : Settings → List SlotBlocks → List SlotBlocks → List (List ℕ)
+slots_for settings before [] = []
+slots_for settings before (blocks ∷ all) = slot_bytes (slot_written settings before blocks) ∷ slots_for settings (before ++ blocks ∷ []) all
+
+all_undamaged : (settings : Settings) (all before : List SlotBlocks) → AreUndamaged settings before all (slots_for settings before all)
+unfolding slots_for
+all_undamaged settings [] before = tt
+all_undamaged settings (blocks ∷ all) before = ((long settings before blocks, kept settings before blocks), all_undamaged settings all (before ++ blocks ∷ []))
+
+one_by_one : (settings : Settings) (all before : List SlotBlocks) → concat (slots_for settings before all) ≡ outputs (encoding settings) before all
+unfolding slots_for
+one_by_one settings [] before = refl
+one_by_one settings (blocks ∷ all) before = ap (λ rest. slot_bytes (slot_written settings before blocks) ++ rest) (one_by_one settings all (before ++ blocks ∷ []))
+
+pub encoded_is_decoded : SlotsArrive → EncodedIsDecoded
+encoded_is_decoded arrive settings max bytes written end ran built few =
+    let anything : Outcome (encoding settings) settings.max bytes (λ output. ⊤) end = record { xs = ran.xs; rest = ran.rest; cut = ran.cut; closes = ran.closes; slots = ran.slots; output = tt } in
+    let decoded = undamaged_is_decoded arrive settings max bytes end anything (slots_for settings [] ran.xs) built few (all_undamaged settings ran.xs []) in
+    let same : concat (slots_for settings [] ran.xs) ≡ written = one_by_one settings ran.xs [] ∙ ran.output in
+    rw same at decoded

@@ -9,26 +9,14 @@ mod no_words;
 use no_words::NoWords;
 use std::env;
 use std::env::Env;
-use std::io::ErrorKind;
 use std::process::ExitCode;
 use tetra_engine::{exit_code, line, run};
 use tetra_io::{StdSink, StdSource};
 
 /// The words behind the program's name.
 fn collect<R: AllocGlobal + Env>(rt: &R) -> Result<Vec<String>, NoWords> {
-    let mut given = match env::args(rt) {
-        Ok(given) => given,
-        Err(error) if error.kind() == ErrorKind::OutOfMemory => return Err(NoWords::Memory),
-        Err(_) => return Err(NoWords::System),
-    };
-    let _name = given.next();
-    let mut words = Vec::new(rt.alloc());
-    for word in given {
-        if words.push(word).is_err() {
-            return Err(NoWords::Memory);
-        }
-    }
-    Ok(words)
+    let given = env::args(rt).map_err(|error| no_words::cause(error.kind()))?;
+    given.skip(1).collect(rt.alloc()).map_err(|_| NoWords::Memory)
 }
 
 fn main(rt: HostRuntime) -> ExitCode {

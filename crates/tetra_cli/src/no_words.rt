@@ -1,12 +1,25 @@
 // Why the program has no words, and what it says and ends with then.
-ghost use Rattle.std.specs.Prelude.{◌≡◌};
+ghost use Rattle.std.specs.Prelude.{◌≡◌, ◌↔◌};
 ghost use Rattle.tetra_cli.specs.Ends.{no_words_text, no_words_code};
+
+use std::io::ErrorKind;
 
 /// Why there are no words.
 #[derive(Clone, Copy, PartialEq, Eq)]
 pub enum NoWords {
     Memory,
     System,
+}
+
+/// Why there are none where the system ended so.
+pub fn cause(kind: ErrorKind) -> NoWords
+    ensures { (result ≡ NoWords.Memory) ↔ (kind ≡ ErrorKind.OutOfMemory) }
+{
+    if kind == ErrorKind::OutOfMemory {
+        NoWords::Memory
+    } else {
+        NoWords::System
+    }
 }
 
 /// The line for standard error, without a newline.

@@ -1,9 +1,11 @@
-// No clause says that the values of a byte, the sent places and the parity of SCH/F are the ones that are written down.
+// No clause says that the values of a byte, the keys, the sent places and the parity of SCH/F are the ones that
+// are written down.
 // These are values of single calls that were worked out by hand.
 use std::process::Abort;
 use tetra_bits::{Bits, cost, soft_of};
 use tetra_channels::Full;
 use tetra_puncture::{TwoThirds, keep};
+use tetra_scramble::{Colour, Key, key, zero_key};
 
 #[test]
 fn values_of_bytes(rt: HostRuntime) {
@@ -24,6 +26,30 @@ fn values_of_bytes(rt: HostRuntime) {
     ] {
         assert_eq!(rt; cost(value, bit), expected, "of {bit} at {value}");
     }
+}
+
+fn begins_with(rt: &impl Abort, key: &Key, bits: &[u8]) {
+    for (i, bit) in bits.iter().enumerate() {
+        assert!(rt; i < 432);
+        assert_eq!(rt; key.get(i), *bit == b'1', "bit {i}");
+    }
+}
+
+#[test]
+fn first_bits_of_keys(rt: HostRuntime) {
+    begins_with(&rt, &zero_key(), b"1011111111110100");
+    let country = Colour {
+        mcc: 512,
+        mnc: 0,
+        cc: 0,
+    };
+    begins_with(&rt, &key(&country), b"0");
+    let code = Colour {
+        mcc: 0,
+        mnc: 0,
+        cc: 1,
+    };
+    begins_with(&rt, &key(&code), b"100");
 }
 
 /// A bit with zeros behind it, so many together.

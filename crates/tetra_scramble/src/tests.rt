@@ -1,31 +1,6 @@
-// What no clause says: that the distances of the recurrence, the order of the colour's bits and the first key bit are
-// the right ones.
-use crate::{Colour, flip_bits, flip_soft, key, zero_key};
+// Both ways to add the key, once each, over the zero key, which begins 1011.
+use crate::{flip_bits, flip_soft, zero_key};
 use tetra_bits::{Bits, Soft};
-
-#[test]
-fn first_bits_of_three_keys(rt: HostRuntime) {
-    let zero = zero_key();
-    let wanted = "1011111111110100";
-    for (i, bit) in wanted.bytes().enumerate() {
-        assert!(rt; i < 16);
-        assert_eq!(rt; zero.get(i), bit == b'1', "bit {i} of the zero key");
-    }
-    let country = key(&Colour {
-        mcc: 512,
-        mnc: 0,
-        cc: 0,
-    });
-    assert!(rt; !country.get(0));
-    let code = key(&Colour {
-        mcc: 0,
-        mnc: 0,
-        cc: 1,
-    });
-    assert!(rt; code.get(0));
-    assert!(rt; !code.get(1));
-    assert!(rt; !code.get(2));
-}
 
 #[test]
 fn flips_from_the_second_bit(rt: HostRuntime) {

@@ -12,7 +12,7 @@ use Rattle.tetra_engine.specs.Decoding.{decoding}
 use Rattle.tetra_engine.specs.Outcomes.{Outcome}
 use Rattle.tetra_engine.specs.Verdicts.{verdict_line}
 
--- the same settings with another form and another greatest number of slots, neither of which an audit looks at
+-- the same settings with another form, which an audit does not look at, and another greatest number of slots
 abbrev pub for_audit : Settings → Form → ℕ → Settings
 for_audit settings form max = record settings { form = form; max = max }
 

@@ -16,7 +16,10 @@ use tetra_io::{StdSink, StdSource};
 /// The words behind the program's name.
 fn collect<R: AllocGlobal + Env>(rt: &R) -> Result<Vec<String>, NoWords> {
     let given = env::args(rt).map_err(|error| no_words::cause(error.kind()))?;
-    given.skip(1).collect(rt.alloc()).map_err(|_| NoWords::Memory)
+    given
+        .skip(1)
+        .collect(rt.alloc())
+        .map_err(|_| NoWords::Memory)
 }
 
 fn main(rt: HostRuntime) -> ExitCode {

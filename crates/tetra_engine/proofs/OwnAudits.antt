@@ -18,7 +18,7 @@ use Rattle.tetra_audit.specs.Agreement.{own_record}
 use Rattle.tetra_audit.specs.Fields.{claim_length}
 use Rattle.tetra_audit.specs.Verdicts.{slot_verdict}
 use Rattle.tetra_audit.specs.declared.verdict.SlotVerdict.TheVariants.{Agrees}
-use Rattle.tetra_engine.specs.Agreeing.{for_audit, DecodedAgrees}
+use Rattle.tetra_engine.specs.Agreeing.{to_read_back, DecodedAgrees}
 use Rattle.tetra_engine.specs.Auditing.{Claimed, slots_of, front_at, verdict_at, refused_by, refused_slots, audit_status, auditing}
 use Rattle.tetra_engine.specs.Decoding.{framed, decoded, decoding}
 use Rattle.tetra_engine.specs.Framing.{is_built_slot}
@@ -44,11 +44,11 @@ soft_slot (byte ∷ slot) (suc k) d within = soft_slot slot k d (omega arith)
 
 module _ (settings : Settings) (form : Form) (max : ℕ) where
   -- neither form nor number of slots has a part in what is read
-  letter_same : (t : ℕ) (soft : List ℤ) → slot_letter (for_audit settings form max) t soft ≡ slot_letter settings t soft
+  pub letter_same : (t : ℕ) (soft : List ℤ) → slot_letter (to_read_back settings form max) t soft ≡ slot_letter settings t soft
   unfolding letter_heard use_of mode_of
   letter_same t soft = refl
 
-  front_same : (history : List (List ℤ)) (soft : List ℤ) → slot_front (for_audit settings form max) history soft ≡ slot_front settings history soft
+  front_same : (history : List (List ℤ)) (soft : List ℤ) → slot_front (to_read_back settings form max) history soft ≡ slot_front settings history soft
   unfolding slot_front letter_heard use_of mode_of
   front_same history soft = refl
 
@@ -78,30 +78,30 @@ module _ (settings : Settings) (form : Form) (max : ℕ) where
   }
 
   module _ (before : List (List ℕ)) (claimed : List Claimed) (slot : List ℕ) (behind : Behind before claimed) (built : IsTrue (is_built_slot settings (length before) slot)) where
-    front_is : front_at (for_audit settings form max) claimed slot ≡ slot_front settings (map soft_values before) (soft_values slot)
+    front_is : front_at (to_read_back settings form max) claimed slot ≡ slot_front settings (map soft_values before) (soft_values slot)
     front_is = front_same (slots_of claimed) (soft_values slot) ∙ ap (λ history. slot_front settings history (soft_values slot)) behind.slots
 
     letter_built : IsBuiltLetter (slot_letter settings (length (map soft_values before)) (soft_values slot))
     letter_built = subst (λ n. IsBuiltLetter (slot_letter settings n (soft_values slot))) (sym (length-map before soft_values)) built
 
-    still_built : IsTrue (is_built_slot (for_audit settings form max) (length claimed) slot)
+    still_built : IsTrue (is_built_slot (to_read_back settings form max) (length claimed) slot)
     still_built =
         let at_claimed : IsTrue (is_built_slot settings (length claimed) slot) = subst (λ n. IsTrue (is_built_slot settings n slot)) (sym behind.many) built in
         subst (λ letter. IsTrue (is_built_letter letter)) (sym (letter_same (length claimed) (soft_values slot))) at_claimed
 
-    long : length (own_record settings (map soft_values before) (soft_values slot)) ≡ claim_length (front_at (for_audit settings form max) claimed slot)
+    long : length (own_record settings (map soft_values before) (soft_values slot)) ≡ claim_length (front_at (to_read_back settings form max) claimed slot)
     long =
         (own_records_agree settings.rows settings (map soft_values before) (soft_values slot) (soft_slot slot) letter_built).0
         ∙ ap claim_length (sym front_is)
 
-    agrees : verdict_at (for_audit settings form max) claimed (own before slot) ≡ Agrees
+    agrees : verdict_at (to_read_back settings form max) claimed (own before slot) ≡ Agrees
     unfolding own
     agrees =
         ap (λ front. slot_verdict settings.rows front (own_record settings (map soft_values before) (soft_values slot))) front_is
         ∙ (own_records_agree settings.rows settings (map soft_values before) (soft_values slot) (soft_slot slot) letter_built).1
 
   inputs : (slots before : List (List ℕ)) (claimed : List Claimed) → Behind before claimed → AreInputs (decoding settings) before slots
-      → AreInputs (auditing (for_audit settings form max)) claimed (owns before slots)
+      → AreInputs (auditing (to_read_back settings form max)) claimed (owns before slots)
   unfolding own owns
   inputs [] before claimed behind each = tt
   inputs (slot ∷ slots) before claimed behind each = (
@@ -110,25 +110,25 @@ module _ (settings : Settings) (form : Form) (max : ℕ) where
   )
 
   none_refused : (slots before : List (List ℕ)) (claimed : List Claimed) → Behind before claimed → AreInputs (decoding settings) before slots
-      → refused_slots (for_audit settings form max) claimed (owns before slots) ≡ []
+      → refused_slots (to_read_back settings form max) claimed (owns before slots) ≡ []
   unfolding owns
   none_refused [] before claimed behind each = refl
   none_refused (slot ∷ slots) before claimed behind each =
-      ap (λ verdict. refused_by (length claimed) verdict ++ refused_slots (for_audit settings form max) (claimed ++ own before slot ∷ []) (owns (before ++ slot ∷ []) slots)) (agrees before claimed slot behind each.0.1)
+      ap (λ verdict. refused_by (length claimed) verdict ++ refused_slots (to_read_back settings form max) (claimed ++ own before slot ∷ []) (owns (before ++ slot ∷ []) slots)) (agrees before claimed slot behind each.0.1)
       ∙ none_refused slots (before ++ slot ∷ []) (claimed ++ own before slot ∷ []) (behind_more before claimed slot behind) each.1
 
   lines : (slots before : List (List ℕ)) (claimed : List Claimed) → Behind before claimed → AreInputs (decoding settings) before slots
-      → outputs (auditing (for_audit settings form max)) claimed (owns before slots) ≡ flat_map (λ slot. verdict_line slot Agrees) (range_with_len (length claimed) (length slots))
+      → outputs (auditing (to_read_back settings form max)) claimed (owns before slots) ≡ flat_map (λ slot. verdict_line slot Agrees) (range_with_len (length claimed) (length slots))
   unfolding owns
   lines [] before claimed behind each = refl
   lines (slot ∷ slots) before claimed behind each =
       let more : length (claimed ++ own before slot ∷ []) ≡ length claimed + 1 = length-append claimed (own before slot ∷ []) in
-      ap (λ verdict. verdict_line (length claimed) verdict ++ outputs (auditing (for_audit settings form max)) (claimed ++ own before slot ∷ []) (owns (before ++ slot ∷ []) slots)) (agrees before claimed slot behind each.0.1)
+      ap (λ verdict. verdict_line (length claimed) verdict ++ outputs (auditing (to_read_back settings form max)) (claimed ++ own before slot ∷ []) (owns (before ++ slot ∷ []) slots)) (agrees before claimed slot behind each.0.1)
       ∙ (ap (λ rest. verdict_line (length claimed) Agrees ++ rest) (lines slots (before ++ slot ∷ []) (claimed ++ own before slot ∷ []) (behind_more before claimed slot behind) each.1)
       ∙ ap (λ n. verdict_line (length claimed) Agrees ++ flat_map (λ s. verdict_line s Agrees) (range_with_len n (length slots))) more)
 
   -- what decoding writes is what an audit reads
-  written_is : settings.form ≡ Audit → (slots before : List (List ℕ)) → outputs (decoding settings) before slots ≡ spellings (auditing (for_audit settings form max)) (owns before slots)
+  written_is : settings.form ≡ Audit → (slots before : List (List ℕ)) → outputs (decoding settings) before slots ≡ spellings (auditing (to_read_back settings form max)) (owns before slots)
   unfolding own owns
   written_is is [] before = refl
   written_is is (slot ∷ slots) before =
@@ -149,7 +149,7 @@ decoded_agrees settings form max bytes written end audit few ran =
       xs = owns settings form max [] slots;
       rest = [];
       cut = record {
-        whole = sym ran.output ∙ (written_is settings form max audit slots [] ∙ sym (append-nil (spellings (auditing (for_audit settings form max)) (owns settings form max [] slots))));
+        whole = sym ran.output ∙ (written_is settings form max audit slots [] ∙ sym (append-nil (spellings (auditing (to_read_back settings form max)) (owns settings form max [] slots))));
         each = inputs settings form max slots [] [] start ran.cut.each;
         few = omega (arith, many, ran.slots);
         longest = λ below x rest fits e. no_more x rest fits.0 e;

@@ -20,7 +20,9 @@ use Rattle.tetra_settings.specs.declared.blocks.SlotBlocks.{SlotBlocks}
 use Rattle.tetra_settings.specs.declared.readings.SlotReading.{SlotReading}
 use Rattle.tetra_settings.specs.declared.types.Form.TheVariants.{Plain}
 use Rattle.tetra_settings.specs.declared.types.Settings.{Settings}
-use Rattle.tetra_engine.specs.Arriving.{for_decoding, AreUndamaged, AreRead, UndamagedIsDecoded, EncodedIsDecoded}
+use Rattle.tetra_engine.proofs.OwnAudits.{letter_same}
+use Rattle.tetra_engine.specs.Agreeing.{to_read_back}
+use Rattle.tetra_engine.specs.Arriving.{AreUndamaged, AreRead, UndamagedIsDecoded, EncodedIsDecoded}
 use Rattle.tetra_engine.specs.Decoding.{decoding}
 use Rattle.tetra_engine.specs.Encoding.{encoding}
 use Rattle.tetra_engine.specs.Framing.{is_built_slot}
@@ -30,11 +32,7 @@ use Rattle.tetra_engine.specs.Slots.{soft_values, value_byte, slot_bytes}
 
 module _ (settings : Settings) (max : ℕ) where
   -- neither form nor number of slots has a part in what is read
-  letter_same : (t : ℕ) (soft : List ℤ) → slot_letter (for_decoding settings max) t soft ≡ slot_letter settings t soft
-  unfolding letter_heard use_of mode_of
-  letter_same t soft = refl
-
-  reading_same : (history : List (List ℤ)) (soft : List ℤ) → slot_reading (for_decoding settings max) history soft ≡ slot_reading settings history soft
+  reading_same : (history : List (List ℤ)) (soft : List ℤ) → slot_reading (to_read_back settings Plain max) history soft ≡ slot_reading settings history soft
   unfolding slot_reading letter_heard use_of mode_of
   reading_same history soft = refl
 
@@ -47,14 +45,14 @@ module _ (settings : Settings) (max : ℕ) where
   readings_of before [] = []
   readings_of before (slot ∷ slots) = slot_reading settings (map soft_values before) (soft_values slot) ∷ readings_of (before ++ slot ∷ []) slots
 
-  spelled : (slots before : List (List ℕ)) → outputs (decoding (for_decoding settings max)) before slots ≡ flat_map (reading_spelling Plain) (readings_of before slots)
+  spelled : (slots before : List (List ℕ)) → outputs (decoding (to_read_back settings Plain max)) before slots ≡ flat_map (reading_spelling Plain) (readings_of before slots)
   unfolding readings_of
   spelled [] before = refl
   spelled (slot ∷ slots) before =
-      ap (λ reading. reading_spelling Plain reading ++ outputs (decoding (for_decoding settings max)) (before ++ slot ∷ []) slots) (reading_same (map soft_values before) (soft_values slot))
+      ap (λ reading. reading_spelling Plain reading ++ outputs (decoding (to_read_back settings Plain max)) (before ++ slot ∷ []) slots) (reading_same (map soft_values before) (soft_values slot))
       ∙ ap (λ rest. reading_spelling Plain (slot_reading settings (map soft_values before) (soft_values slot)) ++ rest) (spelled slots (before ++ slot ∷ []))
 
-  as_they_are : (slots : List (List ℕ)) → concat slots ≡ spellings (decoding (for_decoding settings max)) slots
+  as_they_are : (slots : List (List ℕ)) → concat slots ≡ spellings (decoding (to_read_back settings Plain max)) slots
   as_they_are [] = refl
   as_they_are (slot ∷ slots) = ap (λ rest. slot ++ rest) (as_they_are slots)
 
@@ -65,10 +63,10 @@ module _ (settings : Settings) (max : ℕ) where
       is_read : SlotRead blocks (slot_reading settings (map soft_values before) (soft_values slot))
       is_read = arrive settings sent blocks (map soft_values before) (soft_values slot) built fits.0 fits.1 (length-map before soft_values ∙ same) kept
 
-      still_built : IsTrue (is_built_slot (for_decoding settings max) (length before) slot)
+      still_built : IsTrue (is_built_slot (to_read_back settings Plain max) (length before) slot)
       still_built =
-          let letter : slot_letter (for_decoding settings max) (length before) (soft_values slot) ≡ byte_of (letter_of blocks.body) =
-          letter_same (length before) (soft_values slot)
+          let letter : slot_letter (to_read_back settings Plain max) (length before) (soft_values slot) ≡ byte_of (letter_of blocks.body) =
+          letter_same settings Plain max (length before) (soft_values slot)
           ∙ (ap (λ n. slot_letter settings n (soft_values slot)) (sym (length-map before soft_values))
           ∙ (sym (letter_read (map soft_values before) (soft_values slot)) ∙ is_read.letter)) in
           subst (λ byte. IsTrue (is_built_letter byte)) (sym letter) fits.1
@@ -83,7 +81,7 @@ module _ (settings : Settings) (max : ℕ) where
     many (blocks ∷ all) sent (slot ∷ slots) undamaged = ap (λ n. suc n) (many all (sent ++ blocks ∷ []) slots undamaged.1)
 
     inputs : (all sent : List SlotBlocks) (slots before : List (List ℕ)) → length before ≡ length sent → AreInputs (encoding settings) sent all → AreUndamaged settings sent all slots
-        → AreInputs (decoding (for_decoding settings max)) before slots
+        → AreInputs (decoding (to_read_back settings Plain max)) before slots
     inputs [] sent [] before same each undamaged = tt
     inputs [] sent (slot ∷ slots) before same each undamaged = absurd undamaged
     inputs (blocks ∷ all) sent [] before same each undamaged = absurd undamaged
@@ -113,7 +111,7 @@ undamaged_is_decoded arrive settings max bytes end ran received built few undama
       xs = received;
       rest = [];
       cut = record {
-        whole = as_they_are settings max received ∙ sym (append-nil (spellings (decoding (for_decoding settings max)) received));
+        whole = as_they_are settings max received ∙ sym (append-nil (spellings (decoding (to_read_back settings Plain max)) received));
         each = inputs settings max arrive built ran.xs [] received [] refl ran.cut.each undamaged;
         few = omega (arith, all, ran.slots);
         longest = λ below slot rest fits e. no_more slot rest fits.0 e;

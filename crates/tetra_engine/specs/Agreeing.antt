@@ -12,9 +12,9 @@ use Rattle.tetra_engine.specs.Decoding.{decoding}
 use Rattle.tetra_engine.specs.Outcomes.{Outcome}
 use Rattle.tetra_engine.specs.Verdicts.{verdict_line}
 
--- the same settings with another form, which an audit does not look at, and another greatest number of slots
-abbrev pub for_audit : Settings → Form → ℕ → Settings
-for_audit settings form max = record settings { form = form; max = max }
+-- the same settings for a run over what another wrote: with this form and this greatest number of slots
+abbrev pub to_read_back : Settings → Form → ℕ → Settings
+to_read_back settings form max = record settings { form = form; max = max }
 
 -- the lines of so many slots, all of which agree
 abbrev pub agreeing_lines : ℕ → List ℕ
@@ -25,5 +25,5 @@ abbrev pub DecodedAgrees : Type 0
 DecodedAgrees = (settings : Settings) (form : Form) (max : ℕ) (bytes written : List ℕ) (end : End)
     → settings.form ≡ Audit → end.slots ≤ max
     → Outcome (decoding settings) settings.max bytes (λ output. output ≡ written) end
-    → Outcome (auditing (for_audit settings form max)) max written (λ lines. lines ≡ agreeing_lines end.slots)
+    → Outcome (auditing (to_read_back settings form max)) max written (λ lines. lines ≡ agreeing_lines end.slots)
     (record { status = Done; slots = end.slots })

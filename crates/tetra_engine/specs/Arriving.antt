@@ -12,14 +12,11 @@ use Rattle.tetra_session.specs.Sent.{slot_written}
 use Rattle.tetra_session.specs.Undamaged.{KeepsSlot}
 use Rattle.tetra_engine.specs.declared.status.Status.TheVariants.{Done}
 use Rattle.tetra_engine.specs.declared.status.End.{End}
+use Rattle.tetra_engine.specs.Agreeing.{to_read_back}
 use Rattle.tetra_engine.specs.Decoding.{decoding}
 use Rattle.tetra_engine.specs.Encoding.{encoding}
 use Rattle.tetra_engine.specs.Outcomes.{Outcome}
 use Rattle.tetra_engine.specs.Slots.{soft_values}
-
--- the same settings for decoding in form plain, with another greatest number of slots
-abbrev pub for_decoding : Settings → ℕ → Settings
-for_decoding settings max = record settings { form = Plain; max = max }
 
 -- received slots, one for each of the blocks behind those before: of 510 bytes, and undamaged against the slot
 -- that was written
@@ -51,7 +48,7 @@ UndamagedIsDecoded =
     (settings : Settings) (max : ℕ) (bytes : List ℕ) (end : End)
     (ran : Outcome (encoding settings) settings.max bytes (λ written. ⊤) end) (received : List (List ℕ))
     → IsBuilt settings → end.slots ≤ max → AreUndamaged settings [] ran.xs received
-    → Outcome (decoding (for_decoding settings max)) max (concat received) (NameBlocks ran.xs)
+    → Outcome (decoding (to_read_back settings Plain max)) max (concat received) (NameBlocks ran.xs)
     (record { status = Done; slots = end.slots })
 
 -- The same of the bytes that encoding wrote.
@@ -60,5 +57,5 @@ EncodedIsDecoded =
     (settings : Settings) (max : ℕ) (bytes written : List ℕ) (end : End)
     (ran : Outcome (encoding settings) settings.max bytes (λ output. output ≡ written) end)
     → IsBuilt settings → end.slots ≤ max
-    → Outcome (decoding (for_decoding settings max)) max written (NameBlocks ran.xs)
+    → Outcome (decoding (to_read_back settings Plain max)) max written (NameBlocks ran.xs)
     (record { status = Done; slots = end.slots })

@@ -20,7 +20,8 @@ to_read_back settings form max = record settings { form = form; max = max }
 abbrev pub agreeing_lines : ℕ → List ℕ
 agreeing_lines slots = flat_map (λ slot. verdict_line slot Agrees) (range_with_len 0 slots)
 
--- however a run of decoding with certificates ends, an audit of what it wrote ends Done, with as many slots
+-- Behind a run of decoding with certificates in which no read and no write failed, an audit of what it wrote ends Done,
+-- with as many slots.
 abbrev pub DecodedAgrees : Type 0
 DecodedAgrees = (settings : Settings) (form : Form) (max : ℕ) (bytes written : List ℕ) (end : End)
     → settings.form ≡ Audit → end.slots ≤ max

@@ -41,8 +41,8 @@ pub record NameBlocks (blocks : List SlotBlocks) (bytes : List ℕ) : Type 0 whe
   pub read : AreRead blocks readings
   pub spelled : bytes ≡ flat_map (reading_spelling Plain) readings
 
--- Decoding slots that arrived undamaged of a run of encoding, however that ended, ends Done, with as many slots,
--- and names the blocks that were read.
+-- Decoding slots that arrived undamaged of a run of encoding in which no read and no write failed ends Done, with as
+-- many slots, and names the blocks that were read.
 abbrev pub UndamagedIsDecoded : Type 0
 UndamagedIsDecoded =
     (settings : Settings) (max : ℕ) (bytes : List ℕ) (end : End)

@@ -24,14 +24,16 @@ pub fn one_end()
     ensures audit { (settings : Settings) → OneEnd (auditing settings) }
 {}
 
-/// What decoding wrote with certificates is accepted: an audit of it under the same settings, with any
-/// greatest number of slots that is not below theirs, ends Done and writes `ok` for each.
+/// What a run of decoding in which no read and no write failed wrote with certificates is accepted: an audit of it
+/// under the same settings, with any greatest number of slots that is not below theirs, ends Done and writes `ok`
+/// for each.
 pub fn decoded_agrees()
     ensures { DecodedAgrees }
 {}
 
-/// What encoding wrote is read back: decoding in form plain, under the same settings with any greatest number of
-/// slots that is not below theirs, ends Done and names the blocks of each slot, where all slots arrive undamaged.
+/// What a run of encoding in which no read and no write failed wrote is read back: decoding in form plain, under the
+/// same settings with any greatest number of slots that is not below theirs, ends Done and names the blocks of each
+/// slot, where all slots arrive undamaged.
 pub fn encoded_is_decoded()
     ensures undamaged { UndamagedIsDecoded }
     ensures as_written { EncodedIsDecoded }

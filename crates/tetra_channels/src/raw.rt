@@ -25,7 +25,8 @@ impl Raw72 {
     #[tactic(auto, unfolding(crate::specs::Fields::raw_reading))]
     pub fn decode1(soft: &Soft) -> Reading
         requires { length soft.now ≡ 432 }
-        ensures { result ≡ raw_reading soft.now }
+        ensures reading { result ≡ raw_reading soft.now }
+        ensures size { length result.bits ≡ 432 }
     {
         Reading {
             mark: Mark::Unchecked,
@@ -39,7 +40,8 @@ impl Raw72 {
     #[tactic(auto, unfolding(crate::specs::Fields::raw_reading))]
     pub fn decode1_into(soft: &Soft, reading: &mut Reading)
         requires { length soft.now ≡ 432 }
-        ensures { reading.new ≡ raw_reading soft.now }
+        ensures reading { reading.new ≡ raw_reading soft.now }
+        ensures size { length reading.new.bits ≡ 432 }
     {
         reading.mark = Mark::Unchecked;
         reading.metric = 0;

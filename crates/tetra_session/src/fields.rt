@@ -9,15 +9,15 @@ ghost use Rattle.tetra_session.specs.Heard.{allowed_in, letter_by, key_for, plac
 ghost use Rattle.tetra_session.specs.Readers.{reader, heard_by, read_by};
 ghost use Rattle.tetra_session.specs.Spots.{HasSpot, FitsSpot};
 
-use crate::front::FrontField;
+use crate::keys::Keys;
 use crate::spots::{Place, spot_into};
 use arrayvec::ArrayVec;
 use tetra_bits::{Reading, Soft};
 use tetra_bursts::{Allowed, Train};
-use tetra_channels::{Aach, Bsch, Data24, Full, Half, Hu, Raw72};
+use tetra_channels::{Aach, Bsch, Full, Half, Hu, Raw72};
 use tetra_rm::Rows;
-use tetra_scramble::{Key, flip_soft_into};
-use tetra_settings::{Dir, Field, FieldName, Letter, SlotUse};
+use tetra_scramble::flip_soft_into;
+use tetra_settings::{Dir, FieldName, Letter, SlotUse};
 
 /// The training sequences that a slot may have. In control bursts none is asked for.
 pub fn allowed_in(dir: Dir, slot: SlotUse) -> Allowed
@@ -42,13 +42,6 @@ pub fn letter_by(slot: SlotUse, train: Train) -> Letter
         (SlotUse::Traffic, Train::P) => Letter::P,
         (SlotUse::Control, _) => Letter::C,
     }
-}
-
-/// The keys of a session: that of its colour, and that of no colour, which BSCH has.
-#[derive(Drop)]
-pub struct Keys {
-    pub colour: Key,
-    pub none: Key,
 }
 
 /// The values of the field at a place, after its key, and in the order of type-3 bits where it has a code, written over

@@ -1,7 +1,7 @@
 use Rattle.std.proofs.Common.{◌≡◌, ◌+◌, ◌*◌, ◌%◌, pos}
 use Rattle.tetra_bits.specs.Numbered.{numbered}
 use Rattle.tetra_interleave.specs.Steps.{step_entry}
-use Rattle.tetra_interleave.proofs.block.walk_into.Given as goal
+use Rattle.tetra_interleave.proofs.block.values_by_steps.Given as goal
 
 abbrev pub invariant-loop-value : goal.invariant-loop-value
 invariant-loop-value g l =

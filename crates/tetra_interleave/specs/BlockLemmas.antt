@@ -1,11 +1,12 @@
--- Numbers modulo k.
+-- The places of a block interleaver are one-to-one.
 use Rattle.std.proofs.Common.{ℕ, ◌+◌, ◌-◌, ◌*◌, ◌/◌, ◌%◌, ◌<◌, ◌≤◌, ◌≡◌, arith, ap, sym, ◌∙◌, inl, inr}
 use Rattle.std.proofs.lemmas.Nat.{mul-mod_first, mul-mod_second, mod_below}
 use Rattle.std.proofs.lemmas.Bool.{cases_lt, cases_eq}
 use Rattle.std.proofs.Math.Nat.{mod-eq_of_lt, mod_self, add-mul-mod_self_left, add-mod_right, div-add-mod, mul-mod_left}
-use Rattle.tetra_interleave.specs.Block.{IsBlock}
+use Rattle.tetra_interleave.specs.Block.{IsBlock, block_place}
+use Rattle.tetra_interleave.specs.Laws.{BlocksAreOneToOne}
 
-add-mod_second : (a b m : ℕ) → (a + b % m) % m ≡ (a + b) % m
+pub add-mod_second : (a b m : ℕ) → (a + b % m) % m ≡ (a + b) % m
 add-mod_second a b m =
     let e : a + b % m + m * (b / m) ≡ a + b = omega (arith, div-add-mod b m) in
     sym (add-mul-mod_self_left (a + b % m) m (b / m)) ∙ ap (λ n. n % m) e
@@ -40,8 +41,8 @@ out_index k a inv i b one le =
     ]
 
 -- each place is taken
-pub taken : (k a inv q : ℕ) → IsBlock k a inv → q < k → (i : ℕ) × (1 ≤ i) × (i ≤ k) × ((a * i) % k ≡ q)
-taken k a inv q b lt =
+filled : (k a inv q : ℕ) → IsBlock k a inv → q < k → (i : ℕ) × (1 ≤ i) × (i ≤ k) × ((a * i) % k ≡ q)
+filled k a inv q b lt =
     let back : (a * ((inv * q) % k)) % k ≡ q = forth_and_back k a inv q b ∙ mod-eq_of_lt lt in
     let low : (inv * q) % k < k = mod_below _ k (omega arith) in
     elim (cases_eq ((inv * q) % k) 0) [
@@ -52,15 +53,19 @@ taken k a inv q b lt =
       | inr n ↦ ((inv * q) % k, omega arith, omega arith, back)
     ]
 
--- one step further
-pub step_index : (a b c m : ℕ) → a + c ≡ b → (a % m + c) % m ≡ b % m
-step_index a b c m e =
-    let turn : a % m + c ≡ c + a % m = omega arith in
-    let back : c + a ≡ b = omega arith in
-    ap (λ n. n % m) turn ∙ add-mod_second c a m ∙ ap (λ n. n % m) back
-
--- the first place
-pub start : (k from by : ℕ) → from < k → from ≡ (from + by * 0) % k
-start k from by h =
-    let e : from + by * 0 ≡ from = omega arith in
-    sym (ap (λ n. n % k) e ∙ mod-eq_of_lt h)
+-- no two entries have one place, and each place is that of some entry
+pub blocks_are_one_to_one : BlocksAreOneToOne
+unfolding block_place
+blocks_are_one_to_one k a inv b =
+    record {
+      within = λ i one le.
+          let low : (a * i) % k < k = mod_below (a * i) k (omega arith) in
+          (omega arith, omega arith);
+      apart = λ i j one le one_j le_j same.
+          let p : (a * i) % k ≡ (a * j) % k = omega arith in
+          let e : i - 1 ≡ j - 1 = sym (out_index k a inv i b one le) ∙ ap (λ n. (k - 1 + inv * n) % k) p ∙ out_index k a inv j b one_j le_j in
+          omega arith;
+      filled = λ j one le.
+          let w = filled k a inv (j - 1) b (omega arith) in
+          (w.0, w.1, w.2, omega (arith, w.3));
+    }

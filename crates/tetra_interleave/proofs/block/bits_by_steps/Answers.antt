@@ -1,9 +1,9 @@
 use Rattle.std.proofs.Common.{◌≡◌, ◌+◌, ◌*◌, ◌%◌, arith, false, get_or, ap, ◌∙◌}
 use Rattle.tetra_bits.specs.Numbered.{numbered, numbered_none}
 use Rattle.tetra_interleave.specs.Steps.{step_entry}
-use Rattle.tetra_interleave.proofs.Modular.{start, step_index}
-use Rattle.tetra_interleave.proofs.Places.{step_more, length_so_far}
-use Rattle.tetra_interleave.proofs.block.walked.Goals as goal
+use Rattle.tetra_interleave.proofs.BySteps.{start, step_index}
+use Rattle.tetra_interleave.proofs.BySteps.{step_more, length_so_far}
+use Rattle.tetra_interleave.proofs.block.bits_by_steps.Goals as goal
 
 pub loop-bit-init : goal.loop-bit-init
 loop-bit-init g c =

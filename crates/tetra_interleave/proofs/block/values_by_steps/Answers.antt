@@ -2,9 +2,9 @@ use Rattle.std.proofs.Common.{◌≡◌, ◌+◌, ◌*◌, ◌%◌, arith, rules
 use Rattle.std.proofs.lemmas.Int.{to_z-of_z}
 use Rattle.tetra_bits.specs.Numbered.{numbered, numbered_none}
 use Rattle.tetra_interleave.specs.Steps.{step_entry}
-use Rattle.tetra_interleave.proofs.Modular.{start, step_index}
-use Rattle.tetra_interleave.proofs.Places.{step_more, length_so_far}
-use Rattle.tetra_interleave.proofs.block.walk_into.Goals as goal
+use Rattle.tetra_interleave.proofs.BySteps.{start, step_index}
+use Rattle.tetra_interleave.proofs.BySteps.{step_more, length_so_far}
+use Rattle.tetra_interleave.proofs.block.values_by_steps.Goals as goal
 
 pub loop-value-init : goal.loop-value-init
 loop-value-init g c =

@@ -1,7 +1,7 @@
 use Rattle.std.proofs.Common.{◌≡◌, ◌+◌, ◌*◌, ◌%◌, false}
 use Rattle.tetra_bits.specs.Numbered.{numbered}
 use Rattle.tetra_interleave.specs.Steps.{step_entry}
-use Rattle.tetra_interleave.proofs.block.walked.Given as goal
+use Rattle.tetra_interleave.proofs.block.bits_by_steps.Given as goal
 
 abbrev pub invariant-loop-bit : goal.invariant-loop-bit
 invariant-loop-bit g l =

@@ -1,5 +1,5 @@
 -- How a field is read, by its name. This project's own.
-use Rattle.std.specs.Prelude.{ℕ, false, List, ℤ, replicate, map, None, Some}
+use Rattle.std.specs.Prelude.{ℕ, Bool, false, List, [], ℤ, replicate, map, None, Some}
 use Rattle.std.specs.declared.option.Option.{Option}
 use Rattle.tetra_bits.specs.declared.reading.Mark.TheVariants.{NotYet}
 use Rattle.tetra_bits.specs.declared.reading.Reading.{Reading}
@@ -32,6 +32,13 @@ reader D48 = Trellis data48
 reader D24 = Trellis data24
 reader Whole = NotBuilt
 reader Single = NotBuilt
+
+-- the channel by whose code a field is read, where there is one
+abbrev pub channel_of : Reader → Option Channel
+channel_of Access = None
+channel_of Plain = None
+channel_of (Trellis channel) = Some channel
+channel_of NotBuilt = None
 
 -- received type-5 values of a field after its key, in the order of its type-3 bits where it has a code
 abbrev pub heard_by : Reader → List Bool → List ℤ → List ℤ

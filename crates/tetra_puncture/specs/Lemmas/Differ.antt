@@ -1,4 +1,4 @@
--- Different messages have different words, where the first output of each step is sent.
+-- Different messages have different words, where the first output of each step is sent, or the first two of the next.
 use Prim.Native.Nat.{zero, suc}
 use Rattle.std.proofs.Common.{ℕ, ◌+◌, ◌-◌, ◌*◌, ◌/◌, ◌%◌, ◌<◌, ◌≤◌, ◌≡◌, Bool, true, false, ◌&&◌, List, get_or, replicate, arith, refl, ap, sym, ◌∙◌, lit≤, ◌⊎◌, inl, inr}
 use Rattle.std.proofs.lemmas.List.{ext_get_or, get_or_append_left}
@@ -157,17 +157,21 @@ output_place g bits outs k i v a b e =
 abbrev pub IsSent : CodePlan → ℕ → ℕ → Type 0
 IsSent p k i = (j : ℕ) × (1 ≤ j) × (j ≤ p.sent) × (p.place j ≡ p.outs * k + i)
 
--- the first output of each step is sent, or the first two of the next step
-abbrev pub FirstSent : CodePlan → Type 0
-FirstSent p = (k : ℕ) → k < p.steps → IsSent p k 1 ⊎ ((k + 1 < p.steps) × IsSent p (k + 1) 1 × IsSent p (k + 1) 2)
+-- the first output of each step is sent, and takes the bit of the step
+pub record KeepsFirst (p : CodePlan) : Type 0 where
+  pub outs : 1 ≤ p.outs
+  pub g10 : p.taps 1 0 ≡ true
+  pub sent : (k : ℕ) → k < p.steps → IsSent p k 1
 
--- the taps that the proof uses
-pub record HasFirstTaps (p : CodePlan) : Type 0 where
+-- the first output of each step is sent, or the first two of the next step, of which the first takes the bit before
+-- its own and the second does not
+pub record KeepsFirstOrNext (p : CodePlan) : Type 0 where
   pub outs : 2 ≤ p.outs
   pub g10 : p.taps 1 0 ≡ true
   pub g11 : p.taps 1 1 ≡ true
   pub g20 : p.taps 2 0 ≡ true
   pub g21 : p.taps 2 1 ≡ false
+  pub sent : (k : ℕ) → k < p.steps → IsSent p k 1 ⊎ ((k + 1 < p.steps) × IsSent p (k + 1) 1 × IsSent p (k + 1) 2)
 
 -- an entry of the sent word
 pub word_entry : (p : CodePlan) (m : List Bool) (k : ℕ) → k < p.sent → get_or (word p m) k false ≡ sent_bit p m (k + 1)
@@ -192,28 +196,54 @@ same_output p m n k i a b e w =
     ∙ same_sent_bit p m n w.0 e w.1 w.2
     ∙ output_place p.taps (tailed n) p.outs k i (p.place w.0) a b w.3
 
-agree : (p : CodePlan) (m n : List Bool) → HasFirstTaps p → FirstSent p → word p m ≡ word p n
+-- messages of one word that agree before a step agree at it
+StepsAgree : CodePlan → Type 0
+StepsAgree p = (m n : List Bool) (k : ℕ) → k < p.steps → word p m ≡ word p n
+    → ((i : ℕ) → i < k → get_or (tailed m) i false ≡ get_or (tailed n) i false)
+    → get_or (tailed m) k false ≡ get_or (tailed n) k false
+
+agree : (p : CodePlan) (m n : List Bool) → StepsAgree p → word p m ≡ word p n
     → (c : ℕ) → c ≤ p.steps → (k : ℕ) → k < c → get_or (tailed m) k false ≡ get_or (tailed n) k false
-agree p m n t f e zero l = λ k b. absurd (omega arith)
-agree p m n t f e (suc c) l =
-    let before = agree p m n t f e c (omega arith) in
+unfolding StepsAgree
+agree p m n step e zero l = λ k b. absurd (omega arith)
+agree p m n step e (suc c) l =
+    let before = agree p m n step e c (omega arith) in
     λ k b. elim (cases_lt k c) [
       | inl lt ↦ before k lt
       | inr ge ↦
           let same : k ≡ c = omega arith in
-          rw same (elim (f c (omega arith)) [
-            | inl one ↦ first_output p.taps (tailed m) (tailed n) c t.g10 before
-                (same_output p m n c 1 (lit≤ tt) (omega (arith, t.outs)) e one)
-            | inr two ↦ two_outputs p.taps (tailed m) (tailed n) c t.g10 t.g11 t.g20 t.g21 before
-                (same_output p m n (c + 1) 1 (lit≤ tt) (omega (arith, t.outs)) e two.1)
-                (same_output p m n (c + 1) 2 (lit≤ tt) t.outs e two.2)
-          ])
+          rw same (step m n c (omega arith) e before)
     ]
 
-pub words_differ : (p : CodePlan) → HasFirstTaps p → FirstSent p → WordsDiffer p
+steps_differ : (p : CodePlan) → StepsAgree p → WordsDiffer p
 unfolding tailed
-words_differ p t f m n im jn e =
+steps_differ p step m n im jn e =
     ext_get_or false m n (omega arith) (λ i l.
     sym (get_or_append_left m (replicate 4 false) false i l)
-    ∙ agree p m n t f e p.steps (omega arith) i (omega arith)
+    ∙ agree p m n step e p.steps (omega arith) i (omega arith)
     ∙ get_or_append_left n (replicate 4 false) false i (omega arith))
+
+first_differs : (p : CodePlan) → KeepsFirst p → StepsAgree p
+unfolding StepsAgree
+first_differs p keeps m n k l e before =
+    first_output p.taps (tailed m) (tailed n) k keeps.g10 before
+    (same_output p m n k 1 (lit≤ tt) keeps.outs e (keeps.sent k l))
+
+next_differs : (p : CodePlan) → KeepsFirstOrNext p → StepsAgree p
+unfolding StepsAgree
+next_differs p keeps m n k l e before =
+    elim (keeps.sent k l) [
+      | inl one ↦ first_output p.taps (tailed m) (tailed n) k keeps.g10 before
+          (same_output p m n k 1 (lit≤ tt) (omega (arith, keeps.outs)) e one)
+      | inr two ↦ two_outputs p.taps (tailed m) (tailed n) k keeps.g10 keeps.g11 keeps.g20 keeps.g21 before
+          (same_output p m n (k + 1) 1 (lit≤ tt) (omega (arith, keeps.outs)) e two.1)
+          (same_output p m n (k + 1) 2 (lit≤ tt) keeps.outs e two.2)
+    ]
+
+-- where the first output of each step is sent
+pub words_differ : (p : CodePlan) → KeepsFirst p → WordsDiffer p
+words_differ p keeps = steps_differ p (first_differs p keeps)
+
+-- where it is sent, or the first two of the next step
+pub words_differ_next : (p : CodePlan) → KeepsFirstOrNext p → WordsDiffer p
+words_differ_next p keeps = steps_differ p (next_differs p keeps)

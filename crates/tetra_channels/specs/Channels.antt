@@ -5,11 +5,11 @@ use Rattle.tetra_bits.specs.Digits.{digits}
 use Rattle.tetra_interleave.specs.Block.{IsBlock, block_place}
 use Rattle.tetra_interleave.specs.Placed.{placed, taken}
 use Rattle.tetra_parity.specs.Parity.{with_parity}
-use Rattle.tetra_parity.specs.declared.kinds.Parity.{Parity}
-use Rattle.tetra_parity.specs.declared.kinds.Parity.TheVariants.{Nothing, Sixteen}
+use Rattle.tetra_parity.specs.declared.kind.Parity.{Parity}
+use Rattle.tetra_parity.specs.declared.kind.Parity.TheVariants.{Nothing, Sixteen}
 use Rattle.tetra_puncture.specs.Places.{two_thirds, p292, p148}
 use Rattle.tetra_puncture.specs.Plan.{CodePlan, word}
-use Rattle.tetra_rm.specs.Access.{access_word}
+use Rattle.tetra_rm.specs.Code.{access_word}
 use Rattle.tetra_scramble.specs.Flips.{flipped, turned}
 
 -- a coded channel: the parity of its blocks, the plan of its code, and the number a of its block interleaver, which has

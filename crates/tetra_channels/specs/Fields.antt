@@ -9,7 +9,7 @@ use Rattle.tetra_parity.specs.Marks.{mark_of}
 use Rattle.tetra_puncture.specs.Best.{best_of, message_metric}
 use Rattle.tetra_puncture.specs.Plan.{CodePlan}
 use Rattle.tetra_puncture.specs.ToGo.{potentials_of}
-use Rattle.tetra_rm.specs.Access.{best_access, access_metric}
+use Rattle.tetra_rm.specs.Code.{best_access, access_metric}
 use Rattle.tetra_channels.specs.Channels.{Channel}
 
 -- the reading of a field of a coded channel over type-3 values: the first-least message of its code,

@@ -2,29 +2,20 @@
 use Rattle.std.specs.Prelude.{◌≡◌, ℕ, ◌+◌, ◌<◌, ◌^◌, Bool, ℤ, List, length, Some, None}
 use Rattle.tetra_bits.specs.Digits.{digits}
 use Rattle.tetra_bits.specs.Undamaged.{IsUndamaged}
-use Rattle.tetra_bits.specs.declared.reading.Mark.{Mark}
-use Rattle.tetra_bits.specs.declared.reading.Mark.TheVariants.{Good, Unchecked}
+use Rattle.tetra_bits.specs.declared.reading.Mark.TheVariants.{Unchecked}
 use Rattle.tetra_bits.specs.declared.reading.Reading.{Reading}
+use Rattle.tetra_parity.specs.Marks.{good_mark}
 use Rattle.tetra_parity.specs.Parity.{width}
-use Rattle.tetra_parity.specs.declared.kinds.Parity.{Parity}
-use Rattle.tetra_parity.specs.declared.kinds.Parity.TheVariants.{Nothing, Four, Eight, Sixteen}
 use Rattle.tetra_puncture.specs.ToGo.{potentials_of}
 use Rattle.tetra_scramble.specs.Flips.{turned}
 use Rattle.tetra_channels.specs.Channels.{Channel, message_of, type5_bits, front_values, raw_bits, access_bits}
 use Rattle.tetra_channels.specs.Fields.{coded_reading, raw_reading, access_reading}
 
--- the mark of a message whose parity holds, where it has parity
-abbrev pub written_mark : Parity → Mark
-written_mark Nothing = Unchecked
-written_mark Four = Good
-written_mark Eight = Good
-written_mark Sixteen = Good
-
 -- the block with its parity, without cost, and Good where the channel has parity
 unfoldable pub written_reading : Channel → List Bool → List ℤ → Reading
 written_reading channel block soft =
     record {
-      mark = written_mark channel.parity;
+      mark = good_mark channel.parity;
       metric = 0;
       bits = message_of channel block;
       potentials = Some (potentials_of channel.plan soft);

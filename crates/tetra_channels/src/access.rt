@@ -6,8 +6,8 @@ ghost use Rattle.tetra_channels.specs.Fields.{access_reading};
 ghost use Rattle.tetra_channels.specs.Laws.{UndamagedAccessIsRead};
 
 use tetra_bits::{Bits, Mark, Reading, Soft};
-use tetra_rm::{Rows, decode, encode, message_bits};
-use tetra_scramble::{Key, flip_bits};
+use tetra_rm::{Rows, decode, encode, message_bits, undamaged_arrives};
+use tetra_scramble::{Key, flip_bits, flipped_back, stays_undamaged};
 
 /// AACH: a message of 14 bits, of which 30 are sent (EN 300 392-2 clause 8.3.1.1; the rows of its code are given).
 pub struct Aach;
@@ -56,5 +56,9 @@ impl Aach {
     /// Values that have the signs of the type-5 bits of a message, none of them 0, are read as that message.
     pub fn undamaged_is_read()
         ensures { UndamagedAccessIsRead }
-    {}
+    {
+        flipped_back();
+        stays_undamaged();
+        undamaged_arrives();
+    }
 }

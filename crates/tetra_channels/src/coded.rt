@@ -12,10 +12,10 @@ ghost use Rattle.tetra_channels.specs.Laws.{UndamagedIsRead};
 use crate::message::parity_of;
 use std::marker::PhantomData;
 use tetra_bits::{Bits, Mark, Potentials, Reading, Soft};
-use tetra_interleave::Block;
-use tetra_parity::{mark, with_parity};
+use tetra_interleave::{Block, blocks_are_one_to_one, stay_undamaged};
+use tetra_parity::{blocks_are_good, mark, with_parity};
 use tetra_puncture::{P148, P292, Plan, TwoThirds, keep};
-use tetra_scramble::{Key, flip_bits, flip_soft};
+use tetra_scramble::{Key, flip_bits, flip_soft, flipped_back, stays_undamaged};
 use tetra_trellis::solve_into;
 
 /// A coded channel (EN 300 392-2 clause 8): `PAR` parity bits, 16 or none, the plan `P` of its code,
@@ -139,5 +139,11 @@ impl<const PAR: usize, const K3: usize, const A: usize, const INV: usize, P: Pla
     pub fn undamaged_is_read()
         requires { IsChannel P.IsSound PAR K3 A INV P.plan }
         ensures { UndamagedIsRead (coded PAR A P.plan) }
-    {}
+    {
+        flipped_back();
+        stays_undamaged();
+        stay_undamaged();
+        blocks_are_one_to_one();
+        blocks_are_good();
+    }
 }

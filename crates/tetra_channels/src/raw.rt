@@ -5,7 +5,7 @@ ghost use Rattle.tetra_channels.specs.Fields.{raw_reading};
 ghost use Rattle.tetra_channels.specs.Laws.{UndamagedRawIsRead};
 
 use tetra_bits::{Bits, Mark, Reading, Soft, read_plain};
-use tetra_scramble::{Key, flip_bits};
+use tetra_scramble::{Key, flip_bits, flipped_back, stays_undamaged};
 
 /// TCH/7.2: a block of 432 bits that is only scrambled (EN 300 392-2 clause 8).
 pub struct Raw72;
@@ -52,5 +52,8 @@ impl Raw72 {
     /// Values that have the signs of the type-5 bits of a block, none of them 0, are read as that block.
     pub fn undamaged_is_read()
         ensures { UndamagedRawIsRead }
-    {}
+    {
+        flipped_back();
+        stays_undamaged();
+    }
 }

@@ -43,6 +43,7 @@ module _ (f : ℕ → ℕ) (next : ℕ) (best new : RmReading) (old : IsFirstBel
         | inl lower ↦ let more : best.metric ≤ f j = old.least j lower in omega arith
         | inr ge ↦ let here : j ≡ next = omega arith in rw here (omega arith)
       ]
+
       first : (j : ℕ) → j < new.message → new.metric < f j
       first j h = let more : best.metric ≤ f j = old.least j (omega arith) in omega arith
 

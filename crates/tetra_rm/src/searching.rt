@@ -3,6 +3,7 @@ ghost use Rattle.std.specs.Prelude.{◌≡◌, ◌<◌, ◌≤◌, ◌*◌, ℕ,
 ghost use Rattle.tetra_bits.specs.Cost.{metric};
 ghost use Rattle.tetra_bits.specs.Digits.{digits};
 ghost use Rattle.tetra_bits.specs.Least.{FirstLeast};
+ghost use Rattle.tetra_bits.specs.Soft.{AllWithin};
 ghost use Rattle.tetra_rm.specs.Code.{access_metric, best_access};
 
 use crate::table::Rows;
@@ -65,6 +66,7 @@ pub fn decode(rows: &Rows, soft: &Soft) -> RmReading
     ensures best { digits 14 result.message ≡ best_access rows.now.0 soft.now }
     ensures first { FirstLeast 14 (access_metric rows.now.0 soft.now) (digits 14 result.message) }
     ensures metric { result.metric ≡ access_metric rows.now.0 soft.now (digits 14 result.message) }
+    ensures within { (top : ℕ) → AllWithin top soft.now → result.metric ≤ top * 30 }
 {
     let mut best = rated(rows, soft, 0);
     for message in 1..16_384 {

@@ -15,7 +15,11 @@ fn number(word: &Bits) -> u32 {
 fn values(word: u32) -> Soft {
     let mut soft = Soft::new();
     for k in 0..30 {
-        soft.push(if (word >> (29 - k)) & 1 == 1 { -127 } else { 127 });
+        soft.push(if (word >> (29 - k)) & 1 == 1 {
+            -127
+        } else {
+            127
+        });
     }
     soft
 }

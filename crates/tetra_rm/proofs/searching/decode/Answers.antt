@@ -1,9 +1,11 @@
-use Rattle.std.proofs.Common.{◌≡◌, ℕ, ◌<◌, ◌≤◌, ◌^◌, arith, refl, ap, sym, ◌∙◌}
+use Rattle.std.proofs.Common.{◌≡◌, ℕ, ◌<◌, ◌≤◌, ◌^◌, ◌*◌, length, arith, refl, ap, sym, ◌∙◌}
 use Rattle.tetra_bits.specs.Digits.{digits}
-use Rattle.tetra_bits.proofs.Best.{only_best}
-use Rattle.tetra_rm.specs.Code.{access_metric, best_access}
+use Rattle.tetra_bits.specs.Cost.{metric}
+use Rattle.tetra_bits.specs.lemmas.Within.{metric_within}
+use Rattle.tetra_bits.specs.lemmas.Best.{only_best}
+use Rattle.tetra_rm.specs.Code.{access_word, access_metric, best_access}
 use Rattle.tetra_rm.proofs.Least.{metric_of_number, IsFirstBelow, first_one, one_more}
-use Rattle.tetra_rm.proofs.Numbers.{number_is_first}
+use Rattle.tetra_rm.specs.lemmas.Numbers.{number_is_first}
 use Rattle.tetra_rm.proofs.searching.decode.Goals as goal
 
 pub loop-message-init : goal.loop-message-init
@@ -35,3 +37,11 @@ returns-clause-best c = only_best 14 (access_metric c.args.rows.now.0 c.args.sof
 pub returns-clause-metric : goal.returns-clause-metric
 unfolding metric_of_number
 returns-clause-metric c = c.loop-message.invariant.rated
+
+pub returns-clause-within : goal.returns-clause-within
+unfolding access_metric
+returns-clause-within c = λ top within.
+    let most : metric c.args.soft.now (access_word c.args.rows.now.0 (digits 14 c.loop-message.best.message)) ≤ top * length c.args.soft.now =
+    metric_within top c.args.soft.now (access_word c.args.rows.now.0 (digits 14 c.loop-message.best.message)) within in
+    let rated : c.loop-message.best.metric ≡ metric c.args.soft.now (access_word c.args.rows.now.0 (digits 14 c.loop-message.best.message)) = returns-clause-metric c in
+    rw (rated, ← c.requires) most

@@ -5,9 +5,9 @@ use Rattle.std.specs.Prelude.{ℤ}
 use Rattle.tetra_bits.specs.Cost.{metric}
 use Rattle.tetra_bits.specs.Digits.{digits}
 use Rattle.tetra_bits.specs.Undamaged.{IsUndamaged}
-use Rattle.tetra_bits.proofs.Written.{written_free, others_cost, free_is_best}
+use Rattle.tetra_bits.specs.lemmas.Written.{written_free, others_cost, free_is_best}
 use Rattle.tetra_rm.specs.Code.{rows_sum, access_word, access_metric, best_access, WordsDiffer, UndamagedArrives}
-use Rattle.tetra_rm.proofs.Numbers.{length-digits}
+use Rattle.tetra_rm.specs.lemmas.Numbers.{length-digits}
 
 pub length-access_word : (rows : List ℕ) (message : List Bool) → length (access_word rows message) ≡ length message + 16
 unfolding access_word
@@ -31,7 +31,7 @@ module _ (rows : List ℕ) (message : List Bool) (soft : List ℤ) (size : lengt
   unfolding access_metric
   others other l =
       let same_size : length (access_word rows other) ≡ length (access_word rows message) =
-        length-access_word rows other ∙ ap (λ n. n + 16) (l ∙ sym size) ∙ sym (length-access_word rows message) in
+      length-access_word rows other ∙ ap (λ n. n + 16) (l ∙ sym size) ∙ sym (length-access_word rows message) in
       elim (others_cost (access_word rows message) (access_word rows other) soft u same_size) [
         | inl same ↦ inl (sym (differ rows other message (l ∙ sym size) same))
         | inr costs ↦ inr costs

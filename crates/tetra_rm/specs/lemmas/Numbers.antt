@@ -11,7 +11,7 @@ use Rattle.tetra_bits.specs.Least.{Ranks, FirstLeast}
 use Rattle.tetra_bits.specs.Numbered.{length-numbered, get_or-numbered, is_numbered, numbered_none}
 use Rattle.tetra_bits.specs.Order.{StandsBefore}
 use Rattle.tetra_bits.specs.Sums.{bit_number}
-use Rattle.tetra_bits.proofs.Best.{before_more, zero_before_one}
+use Rattle.tetra_bits.specs.lemmas.Best.{before_more, zero_before_one}
 
 pub length-digits : (n number : ℕ) → length (digits n number) ≡ n
 unfolding digits

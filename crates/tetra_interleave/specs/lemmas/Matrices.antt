@@ -35,7 +35,8 @@ cell_back r c q h =
     let whole : q / c * c + q % c ≡ q = div-add-mod' q c in
     rw (m, d) (omega arith)
 
-place_within : (rows cols i : ℕ) → 1 ≤ i → i ≤ rows * cols → (1 ≤ matrix_place rows cols i) × (matrix_place rows cols i ≤ rows * cols)
+place_within : (rows cols i : ℕ) → 1 ≤ i → i ≤ rows * cols
+    → (1 ≤ matrix_place rows cols i) × (matrix_place rows cols i ≤ rows * cols)
 unfolding matrix_place
 place_within rows cols i one le =
     let h = cell_below rows cols (i - 1) (omega arith) in

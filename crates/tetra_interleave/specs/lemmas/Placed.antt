@@ -20,7 +20,8 @@ module _ {X : Type 0} where
   length-taken d n place y = length-numbered (entry_from d place y) n
 
   -- the entry looked for is found
-  entry_found : (d : X) (n : ℕ) (place : ℕ → ℕ) (x : List X) (i m : ℕ) → IsOneToOne n place → 1 ≤ i → i ≤ m → m ≤ n → entry_for d place x m (place i) ≡ get_or x (i - 1) d
+  entry_found : (d : X) (n : ℕ) (place : ℕ → ℕ) (x : List X) (i m : ℕ) → IsOneToOne n place → 1 ≤ i → i ≤ m → m ≤ n
+      → entry_for d place x m (place i) ≡ get_or x (i - 1) d
   unfolding entry_for
   entry_found d n place x i zero o one le few = absurd (omega arith)
   entry_found d n place x i (suc m) o one le few = elim (cases_eq (place (suc m)) (place i)) [
@@ -35,7 +36,8 @@ module _ {X : Type 0} where
   ]
 
   -- the entries are put at their places
-  pub placed_is : (d : X) (n : ℕ) (place : ℕ → ℕ) (x : List X) → IsOneToOne n place → length x ≡ n → IsPlaced d n place x (placed d n place x)
+  pub placed_is : (d : X) (n : ℕ) (place : ℕ → ℕ) (x : List X) → IsOneToOne n place → length x ≡ n
+      → IsPlaced d n place x (placed d n place x)
   unfolding placed
   placed_is d n place x o l =
       record {
@@ -47,7 +49,8 @@ module _ {X : Type 0} where
       }
 
   -- the entries are taken from their places
-  pub taken_is : (d : X) (n : ℕ) (place : ℕ → ℕ) (y : List X) → length y ≡ n → IsPlaced d n place (taken d n place y) y
+  pub taken_is : (d : X) (n : ℕ) (place : ℕ → ℕ) (y : List X) → length y ≡ n
+      → IsPlaced d n place (taken d n place y) y
   unfolding taken entry_from
   taken_is d n place y l =
       record {
@@ -58,7 +61,8 @@ module _ {X : Type 0} where
       }
 
   -- what was put out is determined
-  pub same_source : (d : X) (n : ℕ) (place : ℕ → ℕ) (x y z : List X) → length x ≡ n → IsPlaced d n place x y → IsPlaced d n place z y → z ≡ x
+  pub same_source : (d : X) (n : ℕ) (place : ℕ → ℕ) (x y z : List X) → length x ≡ n → IsPlaced d n place x y
+      → IsPlaced d n place z y → z ≡ x
   same_source d n place x y z l p q = ext_get_or d z x (sym q.size ∙ p.size) (λ k lt. at k (omega (arith, q.size, p.size)))
     where
       at : (k : ℕ) → k < n → get_or z k d ≡ get_or x k d
@@ -67,7 +71,8 @@ module _ {X : Type 0} where
           ap (λ m. get_or z m d) (sym e) ∙ sym (q.entries (k + 1) (omega arith) (omega arith)) ∙ p.entries (k + 1) (omega arith) (omega arith) ∙ ap (λ m. get_or x m d) e
 
   -- and so is what it became
-  pub same_target : (d : X) (n : ℕ) (place : ℕ → ℕ) (x y z : List X) → IsOneToOne n place → length x ≡ n → IsPlaced d n place x y → IsPlaced d n place x z → z ≡ y
+  pub same_target : (d : X) (n : ℕ) (place : ℕ → ℕ) (x y z : List X) → IsOneToOne n place → length x ≡ n
+      → IsPlaced d n place x y → IsPlaced d n place x z → z ≡ y
   same_target d n place x y z o l p q = ext_get_or d z y (q.size ∙ sym p.size) (λ k lt. at k (omega (arith, q.size)))
     where
       at : (k : ℕ) → k < n → get_or z k d ≡ get_or y k d
@@ -76,10 +81,12 @@ module _ {X : Type 0} where
           let e : place w.0 - 1 ≡ k = omega (arith, w.3) in
           ap (λ m. get_or z m d) (sym e) ∙ q.entries w.0 w.1 w.2 ∙ sym (p.entries w.0 w.1 w.2) ∙ ap (λ m. get_or y m d) e
 
-  pub placed_only : (d : X) (n : ℕ) (place : ℕ → ℕ) (x y : List X) → IsOneToOne n place → length x ≡ n → IsPlaced d n place x y → y ≡ placed d n place x
+  pub placed_only : (d : X) (n : ℕ) (place : ℕ → ℕ) (x y : List X) → IsOneToOne n place → length x ≡ n → IsPlaced d n place x y
+      → y ≡ placed d n place x
   placed_only d n place x y o l p = same_target d n place x (placed d n place x) y o l (placed_is d n place x o l) p
 
-  pub taken_only : (d : X) (n : ℕ) (place : ℕ → ℕ) (x y : List X) → length y ≡ n → IsPlaced d n place x y → x ≡ taken d n place y
+  pub taken_only : (d : X) (n : ℕ) (place : ℕ → ℕ) (x y : List X) → length y ≡ n → IsPlaced d n place x y
+      → x ≡ taken d n place y
   taken_only d n place x y l p = same_source d n place (taken d n place y) y x (length-taken d n place y) (taken_is d n place y l) p
 
   -- back after out, and out after back

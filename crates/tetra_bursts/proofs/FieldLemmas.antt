@@ -23,7 +23,7 @@ written_arrives = record {
 }
 
 -- a field in one span
-whole : (bits : List Bool) (values : List ℤ) (n : ℕ) → length bits ≡ n → IsUndamaged (taken bits 0 n ++ []) values → IsUndamaged bits values
+pub whole : (bits : List Bool) (values : List ℤ) (n : ℕ) → length bits ≡ n → IsUndamaged (taken bits 0 n ++ []) values → IsUndamaged bits values
 whole bits values n l h = rw (append-nil (taken bits 0 n), all_taken bits n l) at h
 
 -- and in two

@@ -1,22 +1,20 @@
 -- The kind of a slot is the only one, and that of an undamaged burst the one that was written.
 use Prim.Native.Nat.{zero, suc}
-use Rattle.std.proofs.Common.{◌≡◌, ℕ, ◌+◌, ◌*◌, ◌<◌, ◌≤◌, ◌≢◌, Bool, true, false, not, nat_lt, if◌then◌else◌, ℤ, pos, negsuc, List, [], ◌∷◌, ◌++◌, length, take, drop, arith, refl, ap, sym, ◌∙◌, inl, inr}
+use Rattle.std.proofs.Common.{◌≡◌, ℕ, ◌+◌, ◌<◌, ◌≤◌, ◌≢◌, Bool, true, false, not, nat_lt, if◌then◌else◌, ℤ, pos, negsuc, List, [], ◌++◌, length, take, drop, arith, refl, ◌∙◌, inl, inr}
 use Rattle.std.proofs.lemmas.Bool.{cases_lt, lt-ltb, le-ltb}
-use Rattle.std.proofs.lemmas.List.{get_or-take, get_or-drop, get_or_append_left, length-take-le, length-drop, append-nil}
+use Rattle.std.proofs.lemmas.List.{get_or-take, get_or-drop, length-take-le, length-drop, append-nil}
 use Rattle.tetra_bits.specs.Cost.{cost, cost_at, metric}
 use Rattle.tetra_bits.specs.Order.{bit_at}
 use Rattle.tetra_bits.specs.Soft.{value_at}
 use Rattle.tetra_bits.specs.Sums.{sum_below}
 use Rattle.tetra_bits.specs.lemmas.Written.{written_free}
-use Rattle.tetra_bits.specs.Undamaged.{HasSign, IsUndamaged}
-use Rattle.tetra_bursts.specs.Table.{total, normal_down, sync_down, normal_up}
+use Rattle.tetra_bits.specs.Undamaged.{HasSign}
+use Rattle.tetra_bursts.specs.Table.{normal_down, sync_down, normal_up}
 use Rattle.tetra_bursts.specs.Slot.{Carried, text, text_bits, read}
-use Rattle.tetra_bursts.specs.Kind.{burst_with, sequence_cost, weight, scaled, place, allows, IsKind, cheaper, cheapest, kind, OnlyKind}
+use Rattle.tetra_bursts.specs.Kind.{burst_with, sequence_cost, scaled, place, allows, IsKind, cheaper, cheapest, kind, OnlyKind}
 use Rattle.tetra_bursts.specs.Arrives.{KeepsBy, StandsIn, OneCostsNothing, KindArrives}
 use Rattle.tetra_bursts.specs.declared.kinds.Allowed.{Allowed}
-use Rattle.tetra_bursts.specs.declared.table.Part.{Part}
 use Rattle.tetra_bursts.specs.declared.table.Part.TheVariants.{Training}
-use Rattle.tetra_bursts.specs.declared.table.Span.{Span}
 use Rattle.tetra_bursts.specs.declared.table.Train.{Train}
 use Rattle.tetra_bursts.specs.declared.table.Train.TheVariants.{N, P, Y}
 use Rattle.tetra_bursts.proofs.Arriving.{sent_bits, part_arrives}

@@ -1,7 +1,7 @@
 -- The laws of the plan of rate 148/432.
 use Prim.Native.Nat.{zero, suc}
 use Rattle.std.proofs.Common.{ℕ, ◌+◌, ◌-◌, ◌*◌, ◌/◌, ◌%◌, ◌<◌, ◌≤◌, ◌≡◌, [], ◌∷◌, slice_index, arith, refl, lit≤}
-use Rattle.tetra_puncture.specs.Lemmas.Differ.{IsSent, words_differ}
+use Rattle.tetra_puncture.specs.lemmas.Differ.{IsSent, words_differ}
 use Rattle.tetra_puncture.specs.Places.{p148, patterned}
 use Rattle.tetra_puncture.specs.Plan.{WordsDiffer, HasSizes, PlacesRise, PlacesLie}
 

@@ -8,7 +8,7 @@ use Rattle.tetra_bits.specs.Least.{best, Ranks}
 use Rattle.tetra_bits.specs.Numbered.{is_numbered}
 use Rattle.tetra_bits.specs.Order.{bit_at}
 use Rattle.tetra_bits.specs.Readings.{entry}
-use Rattle.tetra_bits.proofs.Best.{best_is_first}
+use Rattle.tetra_bits.specs.lemmas.Best.{best_is_first}
 use Rattle.tetra_puncture.specs.Plan.{CodePlan}
 use Rattle.tetra_puncture.specs.Spread.{spread_values}
 use Rattle.tetra_puncture.specs.Trellis.{cost_from, IsContinuation, AllCostsToGo}

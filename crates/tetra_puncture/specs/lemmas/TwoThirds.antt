@@ -1,7 +1,7 @@
 -- The laws of the plans of rate 2/3.
 use Prim.Native.Nat.{zero, suc}
 use Rattle.std.proofs.Common.{ℕ, ◌+◌, ◌-◌, ◌*◌, ◌/◌, ◌%◌, ◌<◌, ◌≡◌, [], ◌∷◌, slice_index, arith, refl, lit≤}
-use Rattle.tetra_puncture.specs.Lemmas.Differ.{KeepsFirst, words_differ}
+use Rattle.tetra_puncture.specs.lemmas.Differ.{KeepsFirst, words_differ}
 use Rattle.tetra_puncture.specs.Plan.{WordsDiffer, HasSizes, PlacesRise, PlacesLie}
 use Rattle.tetra_puncture.specs.Places.{two_thirds, IsTwoThirds}
 

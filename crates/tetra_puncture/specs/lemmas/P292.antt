@@ -1,8 +1,8 @@
 -- The laws of the plan of rate 292/432.
 use Rattle.std.proofs.Common.{ℕ, ◌+◌, ◌-◌, ◌*◌, ◌/◌, ◌%◌, ◌<◌, ◌≤◌, ◌≡◌, ◌⊎◌, inl, inr, arith, refl, lit≤}
 use Rattle.std.proofs.lemmas.Bool.{cases_lt}
-use Rattle.tetra_puncture.specs.Lemmas.Differ.{IsSent, words_differ_next}
-use Rattle.tetra_puncture.specs.Lemmas.TwoThirds.{at_rest}
+use Rattle.tetra_puncture.specs.lemmas.Differ.{IsSent, words_differ_next}
+use Rattle.tetra_puncture.specs.lemmas.TwoThirds.{at_rest}
 use Rattle.tetra_puncture.specs.Places.{p292, two_thirds_place}
 use Rattle.tetra_puncture.specs.Plan.{WordsDiffer, HasSizes, PlacesRise, PlacesLie}
 

@@ -3,14 +3,14 @@ use Rattle.std.proofs.Common.{◌≡◌, ℕ, ◌+◌, ◌-◌, ◌*◌, ◌<◌
 use Rattle.std.specs.Prelude.{ℤ}
 use Rattle.tetra_bits.specs.Numbered.{length-numbered, get_or-numbered}
 use Rattle.tetra_bits.specs.Readings.{entry}
-use Rattle.tetra_bits.specs.Soft.{AllSoft}
-use Rattle.tetra_bits.proofs.Best.{best_is_first}
+use Rattle.tetra_bits.specs.Soft.{AllWithin}
+use Rattle.tetra_bits.specs.lemmas.Best.{best_is_first}
 use Rattle.tetra_puncture.specs.Best.{best_of, message_metric}
 use Rattle.tetra_puncture.specs.Plan.{CodePlan, IsMessage, HasSizes, PlacesRise, PlacesLie}
 use Rattle.tetra_puncture.specs.Spread.{spread_values}
 use Rattle.tetra_puncture.specs.ToGo.{cost_to_go, potential, potential_row, potentials_of}
-use Rattle.tetra_puncture.proofs.Sent.{cost_to_go_sent}
-use Rattle.tetra_puncture.proofs.ToGo.{cost_to_go_is_found}
+use Rattle.tetra_puncture.specs.lemmas.Sent.{cost_to_go_within}
+use Rattle.tetra_puncture.specs.lemmas.ToGo.{cost_to_go_is_found}
 
 pub length-potentials_of : (p : CodePlan) (r : List ℤ) → length (potentials_of p r) ≡ p.steps + 1
 unfolding potentials_of
@@ -37,11 +37,11 @@ entry_of_potentials p r t s h g =
     ap (λ row. get_or row s 0) (row_of_potentials p r t h) ∙ get_or-numbered (potential p (spread_values p r) (t + 1)) 16 s 0 g
     ∙ ap (λ k. cost_to_go p (spread_values p r) k (s + 1 - 1)) back_t ∙ ap (cost_to_go p (spread_values p r) t) back_s
 
--- a potential is at most 127 for each sent bit
-pub potential_sent : (p : CodePlan) (r : List ℤ) (t s : ℕ) → PlacesRise p → PlacesLie p → AllSoft r → t ≤ p.steps → s < 16 → entry (potentials_of p r) t s ≤ 127 * p.sent
-potential_sent p r t s rise lie soft h g =
+-- a potential is at most top for each sent bit, where the values are from -top to top
+pub potential_within : (top : ℕ) (p : CodePlan) (r : List ℤ) (t s : ℕ) → PlacesRise p → PlacesLie p → AllWithin top r → t ≤ p.steps → s < 16 → entry (potentials_of p r) t s ≤ top * p.sent
+potential_within top p r t s rise lie all h g =
     let e : entry (potentials_of p r) t s ≡ cost_to_go p (spread_values p r) t s = entry_of_potentials p r t s h g in
-    let b : cost_to_go p (spread_values p r) t s ≤ 127 * p.sent = cost_to_go_sent p r t s (cost_to_go p (spread_values p r) t s) rise lie soft (cost_to_go_is_found p (spread_values p r) t s h) in
+    let b : cost_to_go p (spread_values p r) t s ≤ top * p.sent = cost_to_go_within top p r t s (cost_to_go p (spread_values p r) t s) rise lie all (cost_to_go_is_found p (spread_values p r) t s h) in
     omega arith
 
 -- the first-least message has a bit for each step but the last four

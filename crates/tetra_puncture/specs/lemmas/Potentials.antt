@@ -3,10 +3,10 @@ use Prim.Native.Nat.{zero, suc}
 use Rattle.std.proofs.Common.{◌≡◌, ℕ, ◌+◌, ◌-◌, ◌<◌, ◌≤◌, Bool, List, [], ◌∷◌, ℤ, arith, refl, sym, ◌∙◌, ap}
 use Rattle.tetra_bits.specs.Readings.{entry}
 use Rattle.tetra_mother.specs.Mother.{next_state}
-use Rattle.tetra_mother.specs.Lemmas.States.{next_small}
+use Rattle.tetra_mother.specs.lemmas.States.{next_small}
 use Rattle.tetra_puncture.specs.Plan.{CodePlan}
 use Rattle.tetra_puncture.specs.Trellis.{step_cost, cost_from, IsAllowed, IsContinuation, IsCostToGo, over_branch}
-use Rattle.tetra_puncture.proofs.Steps.{behind_first, first_allowed, in_front}
+use Rattle.tetra_puncture.specs.lemmas.Steps.{behind_first, first_allowed, in_front}
 
 -- the last row is 0, and no entry is above what an allowed branch leads to
 pub record IsPotential (p : CodePlan) (wide : List ℤ) (table : List (List ℕ)) : Type 0 where

@@ -8,16 +8,16 @@ use Rattle.tetra_bits.specs.Order.{bit_at}
 use Rattle.tetra_bits.specs.Readings.{entry}
 use Rattle.tetra_bits.specs.Soft.{AllSoft}
 use Rattle.tetra_mother.specs.Mother.{next_state}
-use Rattle.tetra_mother.specs.Lemmas.States.{next_small}
+use Rattle.tetra_mother.specs.lemmas.States.{next_small}
 use Rattle.tetra_puncture.specs.Plan.{CodePlan, IsMessage}
 use Rattle.tetra_puncture.specs.Decoding.{least_branch, IsBackward, IsTraced}
 use Rattle.tetra_puncture.specs.Rules.{Holds, IsAccepted}
 use Rattle.tetra_puncture.specs.Trellis.{step_cost, IsAllowed, AllCostsToGo, over_branch, bit_taken, state_passed}
 use Rattle.tetra_puncture.specs.declared.rule.Rule.{Rule}
 use Rattle.tetra_puncture.specs.declared.rule.Rule.TheVariants.{End, Edge0, Edge1, Path, Tie}
-use Rattle.tetra_puncture.proofs.Bounds.{step_cost_small}
-use Rattle.tetra_puncture.proofs.Potentials.{IsPotential, entry_is_cost_to_go}
-use Rattle.tetra_puncture.proofs.Steps.{bit_taken_is, bit_taken_tail, state_passed_first, state_passed_more, state_passed_same}
+use Rattle.tetra_puncture.specs.lemmas.Bounds.{step_cost_fits}
+use Rattle.tetra_puncture.specs.lemmas.Potentials.{IsPotential, entry_is_cost_to_go}
+use Rattle.tetra_puncture.specs.lemmas.Steps.{bit_taken_is, bit_taken_tail, state_passed_first, state_passed_more, state_passed_same}
 
 -- the ways that are allowed before the last four steps, and at them
 pub least_both : (p : CodePlan) (wide : List ℤ) (table : List (List ℕ)) (t s : ℕ) → t + 4 < p.steps →
@@ -107,7 +107,7 @@ pub record BackFrom (p : CodePlan) (wide : List ℤ) (rows : List (List ℕ)) (t
   pub long : length rows ≡ p.steps + 1
   pub end : (s : ℕ) → s < 16 → entry rows p.steps s ≡ 0
   pub before : (u s : ℕ) → t ≤ u → u < p.steps → s < 16 → entry rows u s ≡ least_branch p wide rows u s
-  pub small : (u s : ℕ) → t ≤ u → u ≤ p.steps → s < 16 → entry rows u s ≤ 508 * (p.steps - u)
+  pub small : (u s : ℕ) → t ≤ u → u ≤ p.steps → s < 16 → entry rows u s ≤ 131072 * (p.steps - u)
 
 pub entry_set_other : (rows : List (List ℕ)) (t u s : ℕ) (new : List ℕ) → u ≢ t → entry (set rows t new) u s ≡ entry rows u s
 unfolding entry
@@ -152,21 +152,21 @@ module _ (p : CodePlan) (wide : List ℤ) (rows : List (List ℕ)) (new : List �
         rw e (new_entry s h ∙ sym (least_branch_set p wide rows u u s new (omega arith)))
   ]
 
-  branch_small : (s : ℕ) (b : Bool) → s < 16 → over_branch p wide rows u s b ≤ 508 * (p.steps - u)
+  branch_small : (s : ℕ) (b : Bool) → s < 16 → over_branch p wide rows u s b ≤ 131072 * (p.steps - u)
   unfolding over_branch
   branch_small s b h =
-      let step : step_cost p wide u s b ≤ 508 = step_cost_small p wide u s b few soft in
-      let rest : entry rows t (next_state s b) ≤ 508 * (p.steps - t) = done.small t (next_state s b) (omega arith) within (next_small s b h) in
+      let step : step_cost p wide u s b ≤ 131072 = step_cost_fits p wide u s b few soft in
+      let rest : entry rows t (next_state s b) ≤ 131072 * (p.steps - t) = done.small t (next_state s b) (omega arith) within (next_small s b h) in
       let here : entry rows (u + 1) (next_state s b) ≡ entry rows t (next_state s b) = ap (λ v. entry rows v (next_state s b)) (sym next) in
       omega arith
 
-  least_small : (s : ℕ) → s < 16 → least_branch p wide rows u s ≤ 508 * (p.steps - u)
+  least_small : (s : ℕ) → s < 16 → least_branch p wide rows u s ≤ 131072 * (p.steps - u)
   least_small s h = elim (cases_lt (u + 4) p.steps) [
     | inl lt ↦ omega (arith, least_both p wide rows u s lt, branch_small s false h)
     | inr le ↦ omega (arith, least_tail p wide rows u s le, branch_small s false h)
   ]
 
-  new_small : (v s : ℕ) → u ≤ v → v ≤ p.steps → s < 16 → entry (set rows u new) v s ≤ 508 * (p.steps - v)
+  new_small : (v s : ℕ) → u ≤ v → v ≤ p.steps → s < 16 → entry (set rows u new) v s ≤ 131072 * (p.steps - v)
   new_small v s from inside h = elim (cases_lt u v) [
     | inl lt ↦ omega (arith, entry_set_other rows u v s new (omega arith), done.small v s (omega arith) inside h)
     | inr le ↦ let e : v ≡ u = omega arith in rw e (omega (arith, new_entry s h, least_small s h))

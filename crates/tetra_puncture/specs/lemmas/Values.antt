@@ -6,7 +6,7 @@ use Rattle.std.proofs.lemmas.Bool.Decides.{nat_tests}
 use Rattle.tetra_bits.specs.Numbered.{is_numbered, get_or-numbered, length-numbered}
 use Rattle.tetra_bits.specs.Soft.{value_at}
 use Rattle.tetra_puncture.specs.Plan.{CodePlan, PlacesRise, PlacesLie}
-use Rattle.tetra_puncture.proofs.Front.{rise_far}
+use Rattle.tetra_puncture.specs.lemmas.Front.{rise_far}
 use Rattle.tetra_puncture.specs.Spread.{IsSpread, value_among, spread_value, spread_values}
 
 -- a value at place v is that of a sent bit which has the place, or 0 where none has

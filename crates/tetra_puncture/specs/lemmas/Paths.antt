@@ -6,17 +6,17 @@ use Rattle.tetra_bits.specs.Cost.{cost, cost_at, metric}
 use Rattle.tetra_bits.specs.Order.{bit_at}
 use Rattle.tetra_bits.specs.Soft.{value_at}
 use Rattle.tetra_bits.specs.Sums.{sum_below}
-use Rattle.tetra_bits.proofs.Signs.{sum_same}
+use Rattle.tetra_bits.specs.lemmas.Signs.{sum_same}
 use Rattle.tetra_mother.specs.Mother.{edge, mother_bit, next_state, state_before}
-use Rattle.tetra_mother.specs.Lemmas.States.{edge_is_output}
+use Rattle.tetra_mother.specs.lemmas.States.{edge_is_output}
 use Rattle.tetra_puncture.specs.Plan.{CodePlan, PlacesRise, PlacesLie, IsMessage, tailed, sent_bit, word}
 use Rattle.tetra_puncture.specs.Best.{message_metric}
-use Rattle.tetra_puncture.specs.Lemmas.Differ.{output_place, word_entry}
+use Rattle.tetra_puncture.specs.lemmas.Differ.{output_place, word_entry}
 use Rattle.tetra_puncture.specs.Spread.{spread_value, spread_values}
 use Rattle.tetra_puncture.specs.Trellis.{output_cost, step_cost, cost_from, bit_taken, state_passed}
-use Rattle.tetra_puncture.proofs.Front.{rise_far}
-use Rattle.tetra_puncture.proofs.Steps.{bit_taken_back, state_passed_first, state_passed_more, length-tailed}
-use Rattle.tetra_puncture.proofs.Values.{value_sent, value_not_sent, value_at_spread}
+use Rattle.tetra_puncture.specs.lemmas.Front.{rise_far}
+use Rattle.tetra_puncture.specs.lemmas.Steps.{bit_taken_back, state_passed_first, state_passed_more, length-tailed}
+use Rattle.tetra_puncture.specs.lemmas.Values.{value_sent, value_not_sent, value_at_spread}
 
 sum_more : (n : ℕ) (f : ℕ → ℕ) → sum_below (n + 1) f ≡ sum_below n f + f n
 unfolding sum_below

@@ -4,7 +4,7 @@ use Rattle.std.specs.Prelude.{ℤ}
 use Rattle.tetra_bits.specs.Cost.{metric}
 use Rattle.tetra_bits.specs.Numbered.{length-numbered}
 use Rattle.tetra_bits.specs.Undamaged.{IsUndamaged}
-use Rattle.tetra_bits.proofs.Written.{written_free, others_cost, free_is_best}
+use Rattle.tetra_bits.specs.lemmas.Written.{written_free, others_cost, free_is_best}
 use Rattle.tetra_puncture.specs.Best.{best_of, message_metric}
 use Rattle.tetra_puncture.specs.Plan.{CodePlan, IsMessage, WordsDiffer, word, sent_bit}
 

@@ -1,16 +1,17 @@
--- A cost to go is at most 127 for each sent bit, since places that are not sent cost nothing.
+-- Where all values are from -top to top a cost to go is at most top for each sent bit, since places that are not sent
+-- cost nothing.
 use Prim.Native.Nat.{zero, suc}
 use Rattle.std.proofs.Common.{◌≡◌, ℕ, ◌+◌, ◌-◌, ◌*◌, ◌<◌, ◌≤◌, Bool, true, false, List, [], ◌∷◌, length, ℤ, pos, negsuc, arith, refl, ◌∙◌, ap}
 use Rattle.tetra_bits.specs.Cost.{cost}
-use Rattle.tetra_bits.specs.Soft.{IsSoft, AllSoft, value_at}
+use Rattle.tetra_bits.specs.Soft.{IsWithin, AllWithin, value_at}
 use Rattle.tetra_bits.specs.Sums.{sum_below}
+use Rattle.tetra_bits.specs.lemmas.Within.{cost_within, within_at}
 use Rattle.tetra_mother.specs.Mother.{edge, next_state}
 use Rattle.tetra_puncture.specs.Plan.{CodePlan, PlacesRise, PlacesLie}
 use Rattle.tetra_puncture.specs.Spread.{spread_value, spread_values}
 use Rattle.tetra_puncture.specs.Trellis.{output_cost, step_cost, cost_from, IsCostToGo}
-use Rattle.tetra_puncture.proofs.Bounds.{cost_small, soft_at}
-use Rattle.tetra_puncture.proofs.Paths.{sum_parts, sum_placed}
-use Rattle.tetra_puncture.proofs.Values.{value_sent, value_not_sent, value_at_spread}
+use Rattle.tetra_puncture.specs.lemmas.Paths.{sum_parts, sum_placed}
+use Rattle.tetra_puncture.specs.lemmas.Values.{value_sent, value_not_sent, value_at_spread}
 
 -- what the dearer bit costs at a value
 dearer : ℤ → ℕ
@@ -20,10 +21,10 @@ dearer_none : dearer (pos 0) ≡ 0
 unfolding dearer cost
 dearer_none = refl
 
-dearer_small : (v : ℤ) → IsSoft v → dearer v ≤ 127
+dearer_within : (top : ℕ) (v : ℤ) → IsWithin top v → dearer v ≤ top
 unfolding dearer cost
-dearer_small (pos n) h = let s : cost (pos n) true ≤ 127 = cost_small (pos n) true h in omega arith
-dearer_small (negsuc n) h = let s : cost (negsuc n) false ≤ 127 = cost_small (negsuc n) false h in omega arith
+dearer_within top (pos n) h = let s : cost (pos n) true ≤ top = cost_within top (pos n) true h in omega arith
+dearer_within top (negsuc n) h = let s : cost (negsuc n) false ≤ top = cost_within top (negsuc n) false h in omega arith
 
 below_dearer : (v : ℤ) (b : Bool) → cost v b ≤ dearer v
 unfolding dearer
@@ -41,13 +42,13 @@ sum_below_each (suc n) f g h =
     let b : f n ≤ g n = h n (omega arith) in
     omega arith
 
-sum_at_most : (n : ℕ) (f : ℕ → ℕ) → ((k : ℕ) → k < n → f k ≤ 127) → sum_below n f ≤ 127 * n
+sum_at_most : (top n : ℕ) (f : ℕ → ℕ) → ((k : ℕ) → k < n → f k ≤ top) → sum_below n f ≤ top * n
 unfolding sum_below
-sum_at_most zero f h = omega arith
-sum_at_most (suc n) f h =
-    let a : sum_below n f ≤ 127 * n = sum_at_most n f (λ k l. h k (omega arith)) in
-    let b : f n ≤ 127 = h n (omega arith) in
-    omega arith
+sum_at_most top zero f h = omega arith
+sum_at_most top (suc n) f h =
+    let a : sum_below n f ≤ top * n = sum_at_most top n f (λ k l. h k (omega arith)) in
+    let b : f n ≤ top = h n (omega arith) in
+    omega (arith, a, b)
 
 -- the dearer bits of all places from step t on, at least what any bits cost
 step_below : (p : CodePlan) (wide : List ℤ) (t s : ℕ) (b : Bool) → step_cost p wide t s b ≤ sum_below p.outs (λ i. at_place wide (p.outs * t + i))
@@ -66,31 +67,31 @@ cost_below p wide t s (b ∷ bits) =
     let end : t + suc (length bits) ≡ t + 1 + length bits = omega arith in
     rw end (omega (arith, moved, here, step))
 
--- all places cost at most 127 for each sent one
-places_small : (p : CodePlan) (r : List ℤ) → PlacesRise p → PlacesLie p → AllSoft r → sum_below (p.outs * p.steps) (at_place (spread_values p r)) ≤ 127 * p.sent
+-- all places cost at most top for each sent one
+places_within : (top : ℕ) (p : CodePlan) (r : List ℤ) → PlacesRise p → PlacesLie p → AllWithin top r → sum_below (p.outs * p.steps) (at_place (spread_values p r)) ≤ top * p.sent
 unfolding at_place
-places_small p r rise lie soft =
+places_within top p r rise lie all =
     let wide : List ℤ = spread_values p r in
     let placed : sum_below (p.outs * p.steps) (at_place wide) ≡ sum_below p.sent (λ k. at_place wide (p.place (k + 1) - 1)) =
     sum_placed p rise lie (at_place wide) (p.outs * p.steps) p.sent (omega arith) (λ j a b. let l = lie j a b in l.1) (λ v h unsent.
     ap dearer (value_at_spread p r v h ∙ value_not_sent p r (v + 1) unsent) ∙ dearer_none) in
-    let each : sum_below p.sent (λ k. at_place wide (p.place (k + 1) - 1)) ≤ 127 * p.sent =
-    sum_at_most p.sent (λ k. at_place wide (p.place (k + 1) - 1)) (λ k h.
+    let each : sum_below p.sent (λ k. at_place wide (p.place (k + 1) - 1)) ≤ top * p.sent =
+    sum_at_most top p.sent (λ k. at_place wide (p.place (k + 1) - 1)) (λ k h.
     let low = lie (k + 1) (omega arith) (omega arith) in
     let back : p.place (k + 1) - 1 + 1 ≡ p.place (k + 1) = omega arith in
     let first : k + 1 - 1 ≡ k = omega arith in
     let value : value_at wide (p.place (k + 1) - 1) ≡ value_at r k =
     value_at_spread p r (p.place (k + 1) - 1) (omega arith) ∙ ap (spread_value p r) back ∙ value_sent p r rise (k + 1) (omega arith) (omega arith) ∙ ap (value_at r) first in
-    rw value (dearer_small (value_at r k) (soft_at r soft k))) in
+    rw value (dearer_within top (value_at r k) (within_at top r all k))) in
     omega arith
 
--- a cost to go is at most 127 for each sent bit
-pub cost_to_go_sent : (p : CodePlan) (r : List ℤ) (t s n : ℕ) → PlacesRise p → PlacesLie p → AllSoft r → IsCostToGo p (spread_values p r) t s n → n ≤ 127 * p.sent
-cost_to_go_sent p r t s n rise lie soft c =
+-- a cost to go is at most top for each sent bit
+pub cost_to_go_within : (top : ℕ) (p : CodePlan) (r : List ℤ) (t s n : ℕ) → PlacesRise p → PlacesLie p → AllWithin top r → IsCostToGo p (spread_values p r) t s n → n ≤ top * p.sent
+cost_to_go_within top p r t s n rise lie all c =
     let bits : List Bool = c.reached.0 in
     let end : t + length bits ≡ p.steps = c.reached.1.to_the_end in
-    let all = cost_below p (spread_values p r) t s bits in
-    let whole : sum_below (p.outs * t) (at_place (spread_values p r)) + cost_from p (spread_values p r) t s bits ≤ sum_below (p.outs * p.steps) (at_place (spread_values p r)) = rw end at all in
-    let few : sum_below (p.outs * p.steps) (at_place (spread_values p r)) ≤ 127 * p.sent = places_small p r rise lie soft in
+    let costs = cost_below p (spread_values p r) t s bits in
+    let whole : sum_below (p.outs * t) (at_place (spread_values p r)) + cost_from p (spread_values p r) t s bits ≤ sum_below (p.outs * p.steps) (at_place (spread_values p r)) = rw end at costs in
+    let few : sum_below (p.outs * p.steps) (at_place (spread_values p r)) ≤ top * p.sent = places_within top p r rise lie all in
     let is : cost_from p (spread_values p r) t s bits ≡ n = c.reached.2 in
     omega arith

@@ -6,7 +6,7 @@ use Rattle.std.proofs.lemmas.Bool.{cases_lt}
 use Rattle.tetra_bits.specs.Least.{Ranks}
 use Rattle.tetra_bits.specs.Order.{StandsBefore, bit_at}
 use Rattle.tetra_bits.specs.Readings.{entry}
-use Rattle.tetra_bits.proofs.Best.{only_best}
+use Rattle.tetra_bits.specs.lemmas.Best.{only_best}
 use Rattle.tetra_mother.specs.Mother.{next_state}
 use Rattle.tetra_puncture.specs.Best.{IsFirstLeast, message_metric, best_of}
 use Rattle.tetra_puncture.specs.Certified.{IsCertified, Fits, AcceptedIsCertified}
@@ -15,10 +15,10 @@ use Rattle.tetra_puncture.specs.Rules.{Holds, IsAccepted}
 use Rattle.tetra_puncture.specs.Spread.{spread_values}
 use Rattle.tetra_puncture.specs.Trellis.{cost_from, IsAllowed, IsContinuation, IsCostToGo, over_branch, bit_taken, state_passed}
 use Rattle.tetra_puncture.specs.declared.rule.Rule.TheVariants.{End, Edge0, Edge1, Path, Tie}
-use Rattle.tetra_puncture.proofs.Beats.{OnPath, Beats, entry_on_path, beats_all}
-use Rattle.tetra_puncture.proofs.Paths.{metric_is_cost}
-use Rattle.tetra_puncture.proofs.Potentials.{IsPotential, entry_below}
-use Rattle.tetra_puncture.proofs.Steps.{bit_taken_is, bit_taken_tail, length-tailed, state_passed_first, state_passed_more, state_passed_small}
+use Rattle.tetra_puncture.specs.lemmas.Beats.{OnPath, Beats, entry_on_path, beats_all}
+use Rattle.tetra_puncture.specs.lemmas.Paths.{metric_is_cost}
+use Rattle.tetra_puncture.specs.lemmas.Potentials.{IsPotential, entry_below}
+use Rattle.tetra_puncture.specs.lemmas.Steps.{bit_taken_is, bit_taken_tail, length-tailed, state_passed_first, state_passed_more, state_passed_small}
 
 accepted_edge : (p : CodePlan) (wide : List ℤ) (m : List Bool) (table : List (List ℕ)) → IsAccepted p wide m table →
     (t s : ℕ) (b : Bool) → t < p.steps → s < 16 → IsAllowed p t b → entry table t s ≤ over_branch p wide table t s b

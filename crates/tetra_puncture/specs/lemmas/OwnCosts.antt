@@ -4,7 +4,7 @@ use Rattle.std.proofs.Common.{◌≡◌, ℕ, ◌+◌, ◌-◌, ◌<◌, ◌≤�
 use Rattle.std.proofs.lemmas.Bool.{cases_lt}
 use Rattle.tetra_bits.specs.Readings.{entry}
 use Rattle.tetra_mother.specs.Mother.{next_state}
-use Rattle.tetra_mother.specs.Lemmas.States.{next_small}
+use Rattle.tetra_mother.specs.lemmas.States.{next_small}
 use Rattle.tetra_puncture.specs.Certified.{Fits, CostsToGoAreAccepted}
 use Rattle.tetra_puncture.specs.Decoding.{IsBackward, least_branch}
 use Rattle.tetra_puncture.specs.Plan.{CodePlan, IsMessage}
@@ -12,11 +12,11 @@ use Rattle.tetra_puncture.specs.Rules.{IsAccepted}
 use Rattle.tetra_puncture.specs.Spread.{spread_values}
 use Rattle.tetra_puncture.specs.ToGo.{potentials_of}
 use Rattle.tetra_puncture.specs.Trellis.{step_cost, cost_from, IsAllowed, IsContinuation, IsCostToGo, over_branch}
-use Rattle.tetra_puncture.proofs.Certificates.{certified}
-use Rattle.tetra_puncture.proofs.Rows.{least_both, least_tail, traced_accepted, TracedTo, trace_start, trace_step}
-use Rattle.tetra_puncture.proofs.Shapes.{entry_of_potentials}
-use Rattle.tetra_puncture.proofs.Steps.{behind_first, first_allowed, in_front}
-use Rattle.tetra_puncture.proofs.ToGo.{cost_to_go_is_found}
+use Rattle.tetra_puncture.specs.lemmas.Certificates.{certified}
+use Rattle.tetra_puncture.specs.lemmas.Rows.{least_both, least_tail, traced_accepted, TracedTo, trace_start, trace_step}
+use Rattle.tetra_puncture.specs.lemmas.Shapes.{entry_of_potentials}
+use Rattle.tetra_puncture.specs.lemmas.Steps.{behind_first, first_allowed, in_front}
+use Rattle.tetra_puncture.specs.lemmas.ToGo.{cost_to_go_is_found}
 
 module _ (p : CodePlan) (r : List ℤ) where
   unfoldable wide : List ℤ

@@ -3,13 +3,13 @@ use Rattle.std.proofs.Common.{◌≡◌, ℕ, ◌+◌, ◌<◌, ◌≤◌, ◌�
 use Rattle.std.proofs.Math.Nat.{eq-or-lt_of_le}
 use Rattle.tetra_bits.specs.Order.{StandsBefore}
 use Rattle.tetra_bits.specs.Readings.{entry}
-use Rattle.tetra_bits.proofs.Best.{before_more, zero_before_one}
+use Rattle.tetra_bits.specs.lemmas.Best.{before_more, zero_before_one}
 use Rattle.tetra_mother.specs.Mother.{next_state}
-use Rattle.tetra_mother.specs.Lemmas.States.{next_small}
+use Rattle.tetra_mother.specs.lemmas.States.{next_small}
 use Rattle.tetra_puncture.specs.Plan.{CodePlan}
 use Rattle.tetra_puncture.specs.Trellis.{step_cost, cost_from, IsContinuation, over_branch}
-use Rattle.tetra_puncture.proofs.Steps.{behind_first}
-use Rattle.tetra_puncture.proofs.Potentials.{IsPotential, entry_below}
+use Rattle.tetra_puncture.specs.lemmas.Steps.{behind_first}
+use Rattle.tetra_puncture.specs.lemmas.Potentials.{IsPotential, entry_below}
 
 -- the path and tie rules along bits taken from state s before step t
 unfoldable pub OnPath : CodePlan → List ℤ → List (List ℕ) → ℕ → ℕ → List Bool → Type 0

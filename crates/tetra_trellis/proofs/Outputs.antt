@@ -5,7 +5,7 @@ use Rattle.std.proofs.lemmas.Bool.{lt-ltb, le-ltb, cases_lt}
 use Rattle.tetra_bits.specs.Cost.{cost}
 use Rattle.tetra_bits.specs.Sums.{bit_number, sum_below}
 use Rattle.tetra_bits.specs.Soft.{IsSoft}
-use Rattle.tetra_bits.proofs.Signs.{sum_same}
+use Rattle.tetra_bits.specs.lemmas.Signs.{sum_same}
 use Rattle.tetra_mother.specs.Mother.{edge}
 use Rattle.tetra_puncture.specs.Plan.{CodePlan}
 use Rattle.tetra_puncture.specs.Trellis.{output_cost, step_cost}

@@ -20,3 +20,5 @@ pub mod Undamaged
 pub mod OwnCosts
 pub mod Front
 pub mod Walk
+pub mod Outputs
+pub mod RowEntries

@@ -1,8 +1,8 @@
 use Rattle.std.proofs.Common.{◌≡◌, ◌∙◌, arith}
 use Rattle.std.proofs.Math.ListN.{length-set}
-use Rattle.tetra_trellis.specs.Labels.{AreLabels, branch_label}
-use Rattle.tetra_trellis.proofs.Outputs.{outputs_are, label_is, one_more}
-use Rattle.tetra_trellis.proofs.labels.labels_of.Goals as goal
+use Rattle.tetra_puncture.specs.Labels.{AreLabels, branch_label}
+use Rattle.tetra_puncture.specs.lemmas.Outputs.{outputs_are, label_is, one_more}
+use Rattle.tetra_puncture.proofs.branches.labels_of.Goals as goal
 
 pub loop-state-preserved : goal.loop-state-preserved
 loop-state-preserved g c =

@@ -1,7 +1,7 @@
 use Rattle.std.proofs.Common.{FitsSigned, w16, get_or, pos, arith}
 use Rattle.std.proofs.lemmas.Int.{to_z-of_z}
-use Rattle.tetra_trellis.proofs.Outputs.{pairs_are_costs, soft_fits}
-use Rattle.tetra_trellis.proofs.costs.label_costs.Goals as goal
+use Rattle.tetra_puncture.specs.lemmas.Outputs.{pairs_are_costs, soft_fits}
+use Rattle.tetra_puncture.proofs.branches.label_costs.Goals as goal
 
 pub returns-clause-value : goal.returns-clause-value
 returns-clause-value c =

@@ -1,6 +1,6 @@
 use Rattle.std.proofs.Common.{true, false}
-use Rattle.tetra_trellis.specs.Labels.{AreLabels, HasLabels, label_at}
-use Rattle.tetra_trellis.proofs.labels.Labels.of.Goals as goal
+use Rattle.tetra_puncture.specs.Labels.{AreLabels, HasLabels, label_at}
+use Rattle.tetra_puncture.proofs.branches.Labels.of.Goals as goal
 
 pub returns : goal.returns
 unfolding HasLabels AreLabels label_at

@@ -1,6 +1,6 @@
 use Rattle.std.proofs.Common.{◌≡◌, ℕ, ◌<◌, length, get_or}
-use Rattle.tetra_trellis.specs.Labels.{branch_label}
-use Rattle.tetra_trellis.proofs.labels.labels_of.Given as goal
+use Rattle.tetra_puncture.specs.Labels.{branch_label}
+use Rattle.tetra_puncture.proofs.branches.labels_of.Given as goal
 
 abbrev pub invariant-loop-state : goal.invariant-loop-state
 invariant-loop-state g l = record {

@@ -1,6 +1,6 @@
 use Rattle.std.proofs.Common.{◌≡◌, ℕ, ◌<◌, ◌≤◌, ◌+◌, ◌*◌, length, get_or, pos}
 use Rattle.tetra_bits.specs.Soft.{IsSoft}
-use Rattle.tetra_trellis.proofs.costs.step_values.Given as goal
+use Rattle.tetra_puncture.proofs.branches.step_values.Given as goal
 
 abbrev pub invariant-loop-i : goal.invariant-loop-i
 invariant-loop-i g l = record {

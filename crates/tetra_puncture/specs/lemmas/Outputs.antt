@@ -9,8 +9,8 @@ use Rattle.tetra_bits.specs.lemmas.Signs.{sum_same}
 use Rattle.tetra_mother.specs.Mother.{edge}
 use Rattle.tetra_puncture.specs.Plan.{CodePlan}
 use Rattle.tetra_puncture.specs.Trellis.{output_cost, step_cost}
-use Rattle.tetra_trellis.specs.Labels.{number_of, branch_output, branch_label, label_at, HasLabels, IsStep, AreCosts}
-use Rattle.tetra_trellis.specs.declared.labels.Labels.{Labels}
+use Rattle.tetra_puncture.specs.Labels.{number_of, branch_output, branch_label, label_at, HasLabels, IsStep, AreCosts}
+use Rattle.tetra_puncture.specs.declared.branches.Labels.{Labels}
 
 -- the outputs of a branch, and false past the last
 pub outputs_are : (taps : ℕ → ℕ → Bool) (outs s : ℕ) (b : Bool) (all : List Bool) →

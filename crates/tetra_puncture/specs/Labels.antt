@@ -1,10 +1,11 @@
--- The label of a branch: its outputs as a number, the first one highest, where outputs past the last are 0.
+-- The label of a branch: its outputs as a number, the first one highest, where outputs past the last are 0. This
+-- project's own.
 use Rattle.std.specs.Prelude.{◌≡◌, ℕ, ◌+◌, ◌*◌, ◌<◌, ◌≤◌, Bool, true, false, cond, nat_lt, List, slice_index, ℤ, pos}
 use Rattle.tetra_bits.specs.Cost.{cost}
 use Rattle.tetra_bits.specs.Soft.{value_at}
 use Rattle.tetra_bits.specs.Sums.{bit_number}
 use Rattle.tetra_mother.specs.Mother.{edge}
-use Rattle.tetra_trellis.specs.declared.labels.Labels.{Labels}
+use Rattle.tetra_puncture.specs.declared.branches.Labels.{Labels}
 
 -- four outputs as a number
 unfoldable pub number_of : Bool → Bool → Bool → Bool → ℕ

@@ -1,5 +1,5 @@
 use Rattle.std.proofs.Common.{◌≡◌, ℕ, ◌<◌, ◌+◌, ◌/◌, ◌%◌, length, get_or}
-use Rattle.tetra_trellis.proofs.costs.label_costs.Given as goal
+use Rattle.tetra_puncture.proofs.branches.label_costs.Given as goal
 
 abbrev pub invariant-loop-label : goal.invariant-loop-label
 invariant-loop-label l = record {

@@ -20,8 +20,8 @@ place what where_ = record { name = what; spot = where_ }
 -- where the load of a slot stands whose first half is stolen: speech in the second half, data in both
 abbrev pub load_spot : Mode → Spot
 load_spot Speech = SecondBlock
-load_spot Sig = WholeSlot
-load_spot Cb = WholeSlot
+load_spot Sig = SecondBlock
+load_spot Cb = SecondBlock
 load_spot D72 = WholeSlot
 load_spot (D48 span) = WholeSlot
 load_spot (D24 span) = WholeSlot

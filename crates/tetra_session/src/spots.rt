@@ -1,7 +1,8 @@
 // Where the fields of a slot stand.
-ghost use Rattle.std.specs.Prelude.{◌≡◌, ◌++◌, ◌+◌, ◌≤◌, length, ⊥};
+ghost use Rattle.std.specs.Prelude.{◌≡◌, ◌++◌, length};
 ghost use Rattle.tetra_bits.specs.Soft.{AllSoft};
-ghost use Rattle.tetra_session.specs.Spots.{access_spot, body_places, places_of, spot_values, is_downlink, spot_size, HasSpot};
+ghost use Rattle.tetra_bursts.specs.Fields.{first_half, second_half};
+ghost use Rattle.tetra_session.specs.Spots.{access_spot, body_places, places_of, spot_values, spot_size, HasSpot};
 
 use arrayvec::ArrayVec;
 use tetra_bits::Soft;
@@ -39,6 +40,18 @@ pub struct Place {
     pub spot: Spot,
 }
 
+
+impl Default for Place {
+    ghost is_default = { λ _. Unit {0} };
+
+    /// An access field, which nothing rests on: a list of fixed capacity asks for some value.
+    fn default() -> Self {
+        Place {
+            name: FieldName::Aach,
+            spot: Spot::Access,
+        }
+    }
+}
 
 /// The places of the fields of a letter, behind the access field. A slot is never read as `Q`.
 fn body_places(letter: Letter, mode: Mode) -> &'static [Place]

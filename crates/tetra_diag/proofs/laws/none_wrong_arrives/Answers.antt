@@ -1,0 +1,5 @@
+use Rattle.tetra_diag.specs.Arrives.{HasSignOrNone, arrives}
+use Rattle.tetra_diag.proofs.laws.none_wrong_arrives.Goals as goal
+
+pub returns : goal.returns
+returns c = λ n blocks words s sizes h. arrives HasSignOrNone n blocks words s sizes h

@@ -22,7 +22,7 @@ use Rattle.tetra_engine.specs.Slots.{soft_values}
 use Rattle.tetra_engine.specs.Working.{NoneBegins}
 use Rattle.tetra_engine.proofs.Cuts.{same_front}
 use Rattle.tetra_engine.proofs.Fronts.{unbuilt_front, IsShort}
-use Rattle.tetra_engine.proofs.Framed.{framing_unbuilt, framing_truncated, not_both}
+use Rattle.tetra_engine.proofs.Framed.{framing_short, framing_unbuilt, framing_truncated, not_both}
 
 -- the slots so far, and one more
 pub slots_more : (before : List Claimed) (input : Claimed) → slots_of (before ++ input ∷ []) ≡ slots_of before ++ soft_values input.0 ∷ []
@@ -45,6 +45,13 @@ unbuilt_claimed settings before slot old new size unbuilt came =
     unbuilt_front (auditing settings) before slot old new
     (λ u x rest fits e. not_both settings (length before) slot x.0 (slot_of_input x slot u rest fits.0 size e) unbuilt fits.1)
     (λ u. framing_unbuilt settings (length before) slot u size unbuilt) (omega arith) came
+
+-- fewer bytes than a slot has
+pub short_first : (settings : Settings) (before : List Claimed) → IsShort (auditing settings) before [] 510
+short_first settings before = record {
+  none = λ u few x rest fits e. absurd (omega (arith, ap length e, length-append (x.0 ++ x.1) rest, length-append x.0 x.1, fits.0));
+  stops = λ u few. framing_short settings (length before) u few;
+}
 
 -- a slot behind which bytes of the record are missing
 pub short_claim : (settings : Settings) (before : List Claimed) (slot : List ℕ) (len : ℕ) → length slot ≡ 510 → is_built_slot settings (length before) slot ≡ true

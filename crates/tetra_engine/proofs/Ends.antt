@@ -36,11 +36,11 @@ one_end {X} shape one decided max bytes end other a b =
     same_end end other (one_status shape decided max a.xs b.rest end.status other.status here there) (a.slots ∙ ap (λ xs. length xs) cut.0 ∙ sym b.slots)
 
 -- bytes begin with the record of blocks that fit
-BeginsWithBlocks : Settings → ℕ → List ℕ → Type 0
+pub BeginsWithBlocks : Settings → ℕ → List ℕ → Type 0
 BeginsWithBlocks settings n bytes = (blocks : SlotBlocks) × (rest : List ℕ) × Fits settings n blocks × (bytes ≡ spelling blocks ++ rest)
 
 -- the two ways in which encoding stops
-two_ways : (settings : Settings) (n : ℕ) (bytes : List ℕ) (status : Status) → EncodingStops settings n bytes status
+pub two_ways : (settings : Settings) (n : ℕ) (bytes : List ℕ) (status : Status) → EncodingStops settings n bytes status
     → (NoneBegins settings n bytes × (status ≡ Input n (record_why settings n bytes))) ⊎ (BeginsWithBlocks settings n bytes × (status ≡ NotBuilt))
 unfolding BeginsWithBlocks
 two_ways settings n bytes Done stops = absurd stops

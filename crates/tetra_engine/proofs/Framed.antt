@@ -1,5 +1,5 @@
 -- Slots of 510 bytes at the front of the input.
-use Rattle.std.proofs.Common.{◌≡◌, ℕ, ◌≤◌, List, [], ◌∷◌, ◌++◌, length, take, map, refl, ap, sym, ◌∙◌, arith, length-append, true, false, IsTrue, nat_lt, ℤ}
+use Rattle.std.proofs.Common.{◌≡◌, ℕ, ◌<◌, ◌≤◌, List, [], ◌∷◌, ◌++◌, length, take, map, refl, ap, sym, ◌∙◌, arith, length-append, true, false, IsTrue, nat_lt, ℤ}
 use Rattle.std.proofs.Math.Seq.{take-append_seam}
 use Rattle.std.proofs.lemmas.List.{map-append, length-map}
 use Rattle.std.proofs.lemmas.Grind.{common_steps}
@@ -15,7 +15,7 @@ use Rattle.tetra_engine.specs.Decoding.{decoding}
 use Rattle.tetra_engine.specs.Slots.{soft_values}
 use Rattle.tetra_engine.specs.Working.{NoneBegins}
 use Rattle.tetra_engine.proofs.Cuts.{same_front}
-use Rattle.tetra_engine.proofs.Fronts.{unbuilt_front}
+use Rattle.tetra_engine.proofs.Fronts.{unbuilt_front, IsShort}
 
 -- the slots so far, and one more
 pub heard_more : (before : List (List ℕ)) (slot : List ℕ) → map soft_values (before ++ slot ∷ []) ≡ map soft_values before ++ soft_values slot ∷ []
@@ -45,6 +45,20 @@ not_both settings n slot other same unbuilt built =
     let is : is_built_slot settings n other ≡ false = ap (is_built_slot settings n) same ∙ unbuilt in
     let two : false ≡ true = sym is ∙ built in
     cc two
+
+below : (a b : ℕ) → a < b → nat_lt a b ≡ true
+below a b e = grind (arith, common_steps)
+
+-- fewer bytes than a slot has are cut off
+pub framing_short : (settings : Settings) (n : ℕ) (u : List ℕ) → length u < 510 → Input n Truncated ≡ framing_stop settings n u
+framing_short settings n u few = rw (below (length u) 510 few) refl
+
+-- and begin no slot, for decoding
+pub short_slot : (settings : Settings) (before : List (List ℕ)) → IsShort (decoding settings) before [] 510
+short_slot settings before = record {
+  none = λ u few x rest fits e. absurd (omega (arith, ap length e, length-append x rest, fits.0));
+  stops = λ u few. framing_short settings (length before) u few;
+}
 
 -- a slot that is not built, for decoding
 pub unbuilt_slot : (settings : Settings) (before : List (List ℕ)) (slot : List ℕ) (old new : Option (List ℕ)) → length slot ≡ 510 → is_built_slot settings (length before) slot ≡ false

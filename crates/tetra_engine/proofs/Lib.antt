@@ -8,3 +8,4 @@ pub mod Ends
 pub mod Encoded
 pub mod OwnAudits
 pub mod OwnReadings
+pub mod Said

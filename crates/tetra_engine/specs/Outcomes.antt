@@ -1,7 +1,8 @@
 -- How a run over slots ends, for any command that reads its input slot by slot.
-use Rattle.std.specs.Prelude.{◌≡◌, ◌⊎◌, ℕ, ◌<◌, ◌≤◌, ◌==◌, List, [], ◌∷◌, ◌++◌, length, take, ⊤, None, Some, IfSome, MatchBool}
+use Rattle.std.specs.Prelude.{◌≡◌, ◌⊎◌, ℕ, ◌<◌, ◌≤◌, ◌==◌, List, [], ◌∷◌, ◌++◌, length, take, ⊤, None, Some, MatchBool}
 use Rattle.std.specs.Io.KnownBytes.{Appends}
 use Rattle.std.specs.declared.option.Option.{Option}
+use Rattle.tetra_io.specs.Filling.{AreTold, Went}
 use Rattle.tetra_engine.specs.declared.status.Status.{Status}
 use Rattle.tetra_engine.specs.declared.status.Status.TheVariants.{Done, Refused, TooLong, Input, Read, Write}
 use Rattle.tetra_records.specs.declared.faults.RecordFault.TheVariants.{Truncated}
@@ -58,17 +59,13 @@ pub record WriteFront {X : Type 0} (shape : Shape X) (max : ℕ) (bytes : List �
   pub slots : end.slots ≡ length xs
   pub output : Took (outputs shape [] xs ++ front)
 
--- the bytes that came have P, where the rest is told before and after
+-- the bytes that came have P; where bytes were told, these are a front of them
 abbrev pub Came : Option (List ℕ) → Option (List ℕ) → (List ℕ → Type 0) → Type 0
-Came None new P = ⊤
-Came (Some bytes) None P = ⊤
-Came (Some bytes) (Some rest) P = (came : List ℕ) × (bytes ≡ came ++ rest) × P came
+Came old new P = (came : List ℕ) × Went old new came × P came
 
--- the bytes that are told before have P, where they are told after, too
-abbrev pub ToldBoth : Option (List ℕ) → Option (List ℕ) → (List ℕ → Type 0) → Type 0
-ToldBoth None new P = ⊤
-ToldBoth (Some bytes) None P = ⊤
-ToldBoth (Some bytes) (Some rest) P = P bytes
+-- the bytes of a source have P: those that are told, and where none are told, some
+abbrev pub Over : Option (List ℕ) → (List ℕ → Type 0) → Type 0
+Over old P = (bytes : List ℕ) × AreTold old bytes × P bytes
 
 -- what was taken grew by these bytes, where it is told before and after
 abbrev pub Grows : Option (List ℕ) → Option (List ℕ) → List ℕ → Type 0
@@ -80,8 +77,8 @@ Grows (Some xs) (Some ys) bytes = ys ≡ xs ++ bytes
 abbrev pub EndsBy : {X : Type 0} → Status → Shape X → ℕ
     → Option (List ℕ) → Option (List ℕ) → (List ℕ → Type 0) → End → Type 0
 EndsBy Read shape max old new Took end = Came old new (ReadFront shape max Took end)
-EndsBy Write shape max old new Took end = ToldBoth old new (λ bytes. WriteFront shape max bytes Took end)
-EndsBy status shape max old new Took end = IfSome old (λ bytes. Outcome shape max bytes Took end)
+EndsBy Write shape max old new Took end = Over old (λ bytes. WriteFront shape max bytes Took end)
+EndsBy status shape max old new Took end = Over old (λ bytes. Outcome shape max bytes Took end)
 
 -- what was taken before the flush: all of it, or after a failed write a front
 abbrev pub TookBefore : Status → Option (List ℕ) → Option (List ℕ) → List ℕ → Type 0

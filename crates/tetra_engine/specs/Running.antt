@@ -1,12 +1,13 @@
 -- How a run ends, by its words and the bytes that are told.
-use Rattle.std.specs.Prelude.{◌≡◌, ◌≢◌, ℕ, Bool, true, false, List, Ok, Err, Result, IsTrue, ⊤}
+use Rattle.std.specs.Prelude.{◌≡◌, ◌≢◌, ◌↔◌, ℕ, ◌<◌, ◌≤◌, Bool, true, false, List, Ok, Err, Result, IfOk, MatchResult, IsTrue, ⊤}
 use Rattle.std.specs.declared.option.Option.{Option}
 use Rattle.tetra_settings.specs.declared.types.Command.{Command}
 use Rattle.tetra_settings.specs.declared.types.Command.TheVariants.{Encode, Decode, Audit}
 use Rattle.tetra_settings.specs.declared.types.Settings.{Settings}
 use Rattle.tetra_settings.specs.declared.types.WordFault.{WordFault}
+use Rattle.tetra_records.specs.declared.faults.RecordFault.{RecordFault}
 use Rattle.tetra_engine.specs.declared.status.Status.{Status}
-use Rattle.tetra_engine.specs.declared.status.Status.TheVariants.{Words, NotBuilt, Write}
+use Rattle.tetra_engine.specs.declared.status.Status.TheVariants.{Words, NotBuilt, Write, TooLong, Refused, Input}
 use Rattle.tetra_engine.specs.declared.status.End.{End}
 use Rattle.tetra_engine.specs.Auditing.{auditing}
 use Rattle.tetra_engine.specs.Built.{is_ready}
@@ -76,3 +77,22 @@ RunsBuilt false command settings bytes end = end ≡ record { status = NotBuilt;
 abbrev pub RunsOver : Result (Command × Settings) WordFault → List ℕ → End → Type 0
 RunsOver (Ok (command, settings)) bytes end = RunsBuilt (is_ready command settings) command settings bytes end
 RunsOver (Err fault) bytes end = end ≡ record { status = Words fault.index fault.why; slots = 0 }
+
+-- the words are those of an audit
+abbrev pub IsAudit : Result (Command × Settings) WordFault → Type 0
+IsAudit (Ok (Audit, settings)) = Unit {0}
+IsAudit found = ⊥
+
+-- What an end says of its words and of the number of its slots, whether or not the source tells its bytes.
+pub record Says (found : Result (Command × Settings) WordFault) (end : End) : Type 0 where
+  -- it is Words exactly where the words have that fault
+  pub words : (fault : WordFault) → (end.status ≡ Words fault.index fault.why) ↔ (found ≡ Err fault)
+  -- no more slots went out than the words allow, and none where they are faulty
+  pub few : MatchResult found (λ f. end.slots ≤ f.1.max) (λ fault. end.slots ≡ 0)
+  -- it is TooLong only behind as many slots as they allow
+  pub too_long : end.status ≡ TooLong → IfOk found (λ f. end.slots ≡ f.1.max)
+  -- only an audit is Refused, by some of the slots that went out
+  pub refused : (slot count : ℕ) → end.status ≡ Refused slot count
+      → IsAudit found × (0 < count) × (count ≤ end.slots) × (slot < end.slots)
+  -- a faulty input is the one behind the slots that went out
+  pub input : (slot : ℕ) (why : RecordFault) → end.status ≡ Input slot why → slot ≡ end.slots

@@ -1,5 +1,5 @@
 -- What a work over any shape reads, and what it has done so far.
-use Rattle.std.specs.Prelude.{◌≡◌, ℕ, ◌<◌, ◌≤◌, List, [], ◌++◌, length, ⊤, None, Some, IfSome, Ok, Err, Result}
+use Rattle.std.specs.Prelude.{◌≡◌, ℕ, ◌<◌, ◌≤◌, List, [], length, Ok, Err, Result}
 use Rattle.std.specs.Io.KnownBytes.{Consumes, Appends, IsAtEnd}
 use Rattle.std.specs.declared.option.Option.{Option}
 use Rattle.tetra_io.specs.Streams.{Rose}
@@ -10,18 +10,16 @@ use Rattle.tetra_engine.specs.declared.status.End.{End as EndRecord}
 use Rattle.tetra_engine.specs.declared.work.Stop.{Stop}
 use Rattle.tetra_engine.specs.declared.work.Stop.TheVariants.{End, Bad, NotBuilt, More, Fault}
 use Rattle.tetra_engine.specs.Shapes.{Shape, AreInputs, spellings, outputs, NoInput}
-use Rattle.tetra_engine.specs.Outcomes.{IsPart}
+use Rattle.tetra_engine.specs.Outcomes.{Over, Came, IsPart}
 
--- told bytes, at least one, begin no input behind these, and a run ends so
+-- the bytes, at least one, begin no input behind these, and a run ends so
 abbrev pub NoneBegins : {X : Type 0} → Shape X → List X → Option (List ℕ) → Status → Type 0
 NoneBegins shape before old status =
-    IfSome old (λ bytes. (0 < length bytes) × NoInput shape before bytes × shape.Stops before bytes status)
+    Over old (λ bytes. (0 < length bytes) × NoInput shape before bytes × shape.Stops before bytes status)
 
--- the bytes that went are part of an input behind these, where both ends are told
+-- the bytes that went are part of an input behind these
 abbrev pub TakesPart : {X : Type 0} → Shape X → List X → Option (List ℕ) → Option (List ℕ) → Type 0
-TakesPart shape before None new = ⊤
-TakesPart shape before (Some bytes) None = ⊤
-TakesPart shape before (Some bytes) (Some rest) = (part : List ℕ) × (bytes ≡ part ++ rest) × IsPart shape before part
+TakesPart shape before old new = Came old new (IsPart shape before)
 
 -- what it says that no input came behind these; Stands says that the work has not moved on
 abbrev pub StopGives : {X : Type 0} → Shape X → List X → Option (List ℕ) → Option (List ℕ) → Type 0 → Stop → Type 0

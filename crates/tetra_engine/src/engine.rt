@@ -7,7 +7,7 @@ ghost use Rattle.tetra_settings.specs.Words.{texts, meaning};
 ghost use Rattle.tetra_session.specs.Built.{IsBuilt};
 ghost use Rattle.tetra_engine.specs.Built.{is_built_command};
 ghost use Rattle.tetra_engine.specs.Outcomes.{EndsBy, Grows, IsEnd};
-ghost use Rattle.tetra_engine.specs.Running.{Starts, CommandEnds, Ends, Settles};
+ghost use Rattle.tetra_engine.specs.Running.{Starts, CommandEnds, Ends, Settles, Says};
 
 use crate::auditor::Auditor;
 use crate::decoder::Decoder;
@@ -62,6 +62,8 @@ pub fn run<S: Source, K: Sink>(words: &[String], src: &mut S, sink: &mut K) -> E
     // Each other end is the one that the told bytes define, with its output, or what stands after a fault.
     ensures ends { Ends (meaning (texts words.now)) (S.rest src.old) (S.rest src.new)
         (K.taken sink.old) (K.taken sink.new) result }
+    // Whatever the source tells, the words have the fault that Words names, and the slots are within what they allow.
+    ensures says { Says (meaning (texts words.now)) result }
     // Done and Refused leave nothing to read.
     ensures left { IsEnd result.status → IsAtEnd (S.rest src.new) }
     // On every end but those of the words and of a failed write or flush the sink is settled.

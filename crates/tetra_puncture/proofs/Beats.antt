@@ -5,7 +5,7 @@ use Rattle.tetra_bits.specs.Order.{StandsBefore}
 use Rattle.tetra_bits.specs.Readings.{entry}
 use Rattle.tetra_bits.proofs.Best.{before_more, zero_before_one}
 use Rattle.tetra_mother.specs.Mother.{next_state}
-use Rattle.tetra_mother.specs.States.{next_small}
+use Rattle.tetra_mother.specs.Lemmas.States.{next_small}
 use Rattle.tetra_puncture.specs.Plan.{CodePlan}
 use Rattle.tetra_puncture.specs.Trellis.{step_cost, cost_from, IsContinuation, over_branch}
 use Rattle.tetra_puncture.proofs.Steps.{behind_first}

@@ -4,7 +4,7 @@ use Rattle.std.proofs.Common.{◌≡◌, ℕ, ◌+◌, ◌-◌, ◌<◌, ◌≤�
 use Rattle.std.proofs.lemmas.Bool.{cases_lt}
 use Rattle.tetra_bits.specs.Readings.{entry}
 use Rattle.tetra_mother.specs.Mother.{next_state}
-use Rattle.tetra_mother.specs.States.{next_small}
+use Rattle.tetra_mother.specs.Lemmas.States.{next_small}
 use Rattle.tetra_puncture.specs.Certified.{Fits, CostsToGoAreAccepted}
 use Rattle.tetra_puncture.specs.Decoding.{IsBackward, least_branch}
 use Rattle.tetra_puncture.specs.Plan.{CodePlan, IsMessage}

@@ -8,10 +8,10 @@ use Rattle.tetra_bits.specs.Soft.{value_at}
 use Rattle.tetra_bits.specs.Sums.{sum_below}
 use Rattle.tetra_bits.proofs.Signs.{sum_same}
 use Rattle.tetra_mother.specs.Mother.{edge, mother_bit, next_state, state_before}
-use Rattle.tetra_mother.specs.States.{edge_is_output}
+use Rattle.tetra_mother.specs.Lemmas.States.{edge_is_output}
 use Rattle.tetra_puncture.specs.Plan.{CodePlan, PlacesRise, PlacesLie, IsMessage, tailed, sent_bit, word}
 use Rattle.tetra_puncture.specs.Best.{message_metric}
-use Rattle.tetra_puncture.specs.Differ.{output_place, word_entry}
+use Rattle.tetra_puncture.specs.Lemmas.Differ.{output_place, word_entry}
 use Rattle.tetra_puncture.specs.Spread.{spread_value, spread_values}
 use Rattle.tetra_puncture.specs.Trellis.{output_cost, step_cost, cost_from, bit_taken, state_passed}
 use Rattle.tetra_puncture.proofs.Front.{rise_far}

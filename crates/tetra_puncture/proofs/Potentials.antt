@@ -3,7 +3,7 @@ use Prim.Native.Nat.{zero, suc}
 use Rattle.std.proofs.Common.{◌≡◌, ℕ, ◌+◌, ◌-◌, ◌<◌, ◌≤◌, Bool, List, [], ◌∷◌, ℤ, arith, refl, sym, ◌∙◌, ap}
 use Rattle.tetra_bits.specs.Readings.{entry}
 use Rattle.tetra_mother.specs.Mother.{next_state}
-use Rattle.tetra_mother.specs.States.{next_small}
+use Rattle.tetra_mother.specs.Lemmas.States.{next_small}
 use Rattle.tetra_puncture.specs.Plan.{CodePlan}
 use Rattle.tetra_puncture.specs.Trellis.{step_cost, cost_from, IsAllowed, IsContinuation, IsCostToGo, over_branch}
 use Rattle.tetra_puncture.proofs.Steps.{behind_first, first_allowed, in_front}

@@ -8,7 +8,7 @@ use Rattle.tetra_bits.specs.Order.{bit_at}
 use Rattle.tetra_bits.specs.Readings.{entry}
 use Rattle.tetra_bits.specs.Soft.{AllSoft}
 use Rattle.tetra_mother.specs.Mother.{next_state}
-use Rattle.tetra_mother.specs.States.{next_small}
+use Rattle.tetra_mother.specs.Lemmas.States.{next_small}
 use Rattle.tetra_puncture.specs.Plan.{CodePlan, IsMessage}
 use Rattle.tetra_puncture.specs.Decoding.{least_branch, IsBackward, IsTraced}
 use Rattle.tetra_puncture.specs.Rules.{Holds, IsAccepted}

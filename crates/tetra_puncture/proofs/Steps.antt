@@ -5,7 +5,7 @@ use Rattle.std.proofs.lemmas.List.{get_or_past}
 use Rattle.std.proofs.lemmas.Bool.{lt-ltb}
 use Rattle.tetra_bits.specs.Order.{bit_at}
 use Rattle.tetra_mother.specs.Mother.{bit_back, next_state, state_before}
-use Rattle.tetra_mother.specs.States.{next_is_state, state_first, state_small}
+use Rattle.tetra_mother.specs.Lemmas.States.{next_is_state, state_first, state_small}
 use Rattle.tetra_puncture.specs.Plan.{CodePlan, tailed}
 use Rattle.tetra_puncture.specs.Trellis.{IsAllowed, IsContinuation, bit_taken, state_passed}
 

@@ -3,7 +3,7 @@ use Rattle.std.proofs.Common.{ℕ, ◌+◌, ◌-◌, ◌/◌, ◌%◌, ◌<◌, 
 use Rattle.std.proofs.lemmas.Nat.{le-div, mod_below}
 use Rattle.std.proofs.Math.Nat.{div-mul-le_self}
 use Rattle.tetra_mother.specs.Mother.{edge, state_before, bit_back, mother_bit}
-use Rattle.tetra_mother.specs.States.{edge_is_output}
+use Rattle.tetra_mother.specs.Lemmas.States.{edge_is_output}
 use Rattle.tetra_puncture.specs.Plan.{CodePlan, sent_bit, tailed, PlacesRise}
 
 pub div_le : (a b n : ℕ) → 0 < n → a ≤ b → a / n ≤ b / n

@@ -3,6 +3,7 @@ use Rattle.std.specs.Prelude.{ℕ, ◌≡◌, ◌⊎◌, ◌<◌, nat_le, Bool, 
 use Rattle.std.specs.Io.KnownBytes.{Consumes, IsAtEnd}
 use Rattle.std.specs.declared.option.Option.{Option}
 use Rattle.tetra_io.specs.Streams.{Rose}
+use Rattle.tetra_io.specs.Filling.{AreTold, Went}
 use Rattle.tetra_settings.specs.declared.types.Settings.{Settings}
 use Rattle.tetra_settings.specs.declared.slots.Letter.{Letter}
 use Rattle.tetra_settings.specs.declared.blocks.SlotBlocks.{SlotBlocks}
@@ -56,18 +57,16 @@ taken settings t WrongKind bytes = take 1 bytes
 taken settings t PadBit bytes = record_taken settings t bytes
 taken settings t Truncated bytes = bytes
 
--- told bytes, at least one, begin with no record of slot t, this is why, and so many were taken
+-- the bytes, at least one, begin with no record of slot t, this is why, and so many were taken
 abbrev pub BeginsNone : Settings → ℕ → RecordFault → Option (List ℕ) → Option (List ℕ) → Type 0
 BeginsNone settings t fault old new =
-    IfSome old (λ bytes. (0 < length bytes) × NoneBegins settings t bytes × (why settings t bytes ≡ fault)
-    × Consumes old new (taken settings t fault bytes))
+    (bytes : List ℕ) × AreTold old bytes × (0 < length bytes) × NoneBegins settings t bytes
+    × (why settings t bytes ≡ fault) × Consumes old new (taken settings t fault bytes)
 
--- told bytes that went are none, or begin with no record of slot t for want of more
+-- the bytes that went are none, or begin with no record of slot t for want of more
 abbrev pub TakesPart : Settings → ℕ → Option (List ℕ) → Option (List ℕ) → Type 0
-TakesPart settings t None new = ⊤
-TakesPart settings t (Some bytes) None = ⊤
-TakesPart settings t (Some bytes) (Some rest) =
-    (part : List ℕ) × (bytes ≡ part ++ rest)
+TakesPart settings t old new =
+    (part : List ℕ) × Went old new part
     × ((part ≡ []) ⊎ (NoneBegins settings t part × (why settings t part ≡ Truncated)))
 
 -- what reading the record of slot t gives

@@ -1,6 +1,6 @@
 use Rattle.std.proofs.Common.{rules, arith, ◌≡◌, ◌∙◌, ap, sym, subst, true, false, length, ◌++◌, ◌∷◌, []}
 use Rattle.tetra_io.specs.Filling.{TakesFewer}
-use Rattle.std.proofs.KnownBytes.{Consumes-trans}
+use Rattle.std.proofs.KnownBytes.{Consumes-nil, Consumes-trans}
 use Rattle.tetra_session.specs.Heard.{ReceiverStands, slot_letter, slot_front}
 use Rattle.tetra_session.specs.Built.{is_built_letter}
 use Rattle.tetra_audit.specs.Fields.{claim_length}
@@ -8,7 +8,7 @@ use Rattle.tetra_engine.specs.Framing.{is_built_slot}
 use Rattle.tetra_engine.specs.Auditing.{auditing, slots_of}
 use Rattle.tetra_engine.proofs.Fronts.{ended_behind, fault_behind}
 use Rattle.tetra_engine.proofs.Framed.{take_front}
-use Rattle.tetra_engine.proofs.Audited.{unbuilt_claimed, letter_same, short_claim, front_audited, refused_few, counts_number}
+use Rattle.tetra_engine.proofs.Audited.{short_first, unbuilt_claimed, letter_same, short_claim, front_audited, refused_few, counts_number}
 use Rattle.tetra_engine.proofs.auditor.AuditorWork.read.Goals as goal
 
 pub returns-then-not-is_built_letter-clause-gives : goal.returns-then-not-is_built_letter-clause-gives
@@ -68,3 +68,7 @@ returns-in-Whole-fill-clause-gives g c xs stands slot =
       (search rules, built, size ∙ len),
       Consumes-trans _ _ _ _ _ c.in-Whole.ensures.bytes c.in-Whole-fill.ensures.bytes,
     )
+
+pub returns-in-Ended-clause-gives : goal.returns-in-Ended-clause-gives
+returns-in-Ended-clause-gives g c xs stands slot =
+    ended_behind (auditing c.args.self.now.settings) xs [] 510 _ c.fill.new.buf _ _ _ (short_first c.args.self.now.settings xs) (Consumes-nil _) c.in-Ended.ensures.bytes (search rules) (omega arith)

@@ -1,0 +1,4 @@
+use Rattle.tetra_bursts.proofs.laws.kind_arrives.Goals as goal
+
+pub returns : goal.returns
+returns c = ?

@@ -1,5 +1,6 @@
 -- What is read of a ring is the formula's.
 use Rattle.std.proofs.Common.{ℕ, ◌+◌, ◌-◌, ◌*◌, ◌/◌, ◌%◌, ◌<◌, ◌≤◌, ◌≡◌, Bool, true, false, List, [], length, get_or, arith, refl, ap, ◌∙◌, nat_lt, ℤ, pos}
+use Rattle.std.specs.Prelude.{Option, Some, None, IfSome, IsTrue}
 use Rattle.std.proofs.lemmas.List.{get_or_default}
 use Rattle.std.proofs.lemmas.Bool.{lt-ltb, le-ltb}
 use Rattle.std.proofs.lemmas.Nat.{mod_below}
@@ -47,3 +48,12 @@ unfolding gathered
 gathered_some n words old new h e =
     let t : nat_lt (length words) n ≡ false = le-ltb _ _ h in
     rw t (refl, e)
+
+not_both : (b : Bool) → b ≡ false → b ≡ true → ⊥
+not_both b e f = cc
+
+-- what holds of the block that is answered holds of the list that is filled
+pub filled : (P : List ℤ → Type 0) (answer : Option (List ℤ)) (done : Bool) (old new : List ℤ) → Fills answer done old new
+    → IfSome answer P → IsTrue done → P new
+filled P None done old new (not_done, same) h t = absurd (not_both done not_done t)
+filled P (Some block) done old new (is_done, is) h t = rw is h

@@ -6,8 +6,9 @@ use Rattle.std.proofs.lemmas.List.{get_or-drop, get_or-take, get_or-append_right
 use Rattle.std.proofs.lemmas.List.Elements.{All-push, All-set}
 use Rattle.std.proofs.lemmas.Nat.{mod-mul-add}
 use Rattle.tetra_diag.specs.Diagonal.{last}
-use Rattle.tetra_diag.specs.Kept.{last_room, last_full}
+use Rattle.tetra_diag.specs.lemmas.Kept.{last_room, last_full}
 use Rattle.tetra_diag.specs.Ring.{turned, IsRing, Puts, place}
+
 mod_less : (m n : ℕ) → m < n → m % n ≡ m
 mod_less m n h =
     let e : 0 * n + m ≡ m = omega arith in

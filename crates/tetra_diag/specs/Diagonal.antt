@@ -1,7 +1,7 @@
 -- Diagonal interleaving over n slots, EN 300 392-2 clause 8.2.4.2. Blocks m = 0, 1, 2 and so on are pushed one by one,
 -- and each push gives one slot word: bit k of slot word m is bit j + 1 + i n of block m - j, with
--- j = (k - 1) div (432 / n) and i = (k - 1) mod (432 / n), and 0 where there is no block m - j. Bits are numbered from 1.
--- How the values of a block are found again is this project's own.
+-- j = (k - 1) div (432 / n) and i = (k - 1) mod (432 / n), and 0 where there is no block m - j. Bits and values are
+-- numbered from 1. How the values of a block are found again is this project's own.
 use Rattle.std.specs.Prelude.{◌≡◌, ℕ, ◌+◌, ◌-◌, ◌*◌, ◌/◌, ◌%◌, Bool, true, false, ◌||◌, IsTrue, cond, List, [], length, drop, slice_index_or, nat_eq, nat_lt, ℤ, Option, Some, None}
 use Rattle.tetra_bits.specs.Numbered.{numbered}
 use Rattle.tetra_bits.specs.Order.{bit_at}
@@ -40,6 +40,10 @@ gathered_value n words q =
 -- the block that the last of these words completes: none before there are n
 unfoldable pub gathered : ℕ → List (List ℤ) → Option (List ℤ)
 gathered n words = cond (nat_lt (length words) n) None (Some (numbered (gathered_value n words) 432))
+
+-- the block of which the last n of these slot words have all bits: block m - n + 1, where block m is the last
+abbrev pub complete_block : ℕ → List (List Bool) → List Bool
+complete_block n blocks = slice_index_or blocks (length blocks - n) []
 
 -- the last n entries, or all where there are fewer
 abbrev pub last : {X : Type 0} → ℕ → List X → List X

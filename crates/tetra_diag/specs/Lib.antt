@@ -1,5 +1,5 @@
 pub mod Diagonal
 pub mod Ring
-pub mod Depths
-pub mod Kept
 pub mod Arrives
+pub mod FromLast
+pub mod lemmas

@@ -1,7 +1,7 @@
 // Gathering blocks from slots.
-ghost use Rattle.std.specs.Prelude.{◌≡◌, ◌<◌, ◌≤◌, ◌+◌, ◌++◌, ◌∷◌, [], ℤ, pos, List, length, All, IsTrue, IfSome};
+ghost use Rattle.std.specs.Prelude.{◌≡◌, ◌<◌, ◌≤◌, ◌+◌, ◌++◌, ◌∷◌, [], ℕ, ℤ, List, length, All, IsTrue, IfSome};
 ghost use Rattle.tetra_bits.specs.Numbered.{numbered};
-ghost use Rattle.tetra_bits.specs.Soft.{IsSoft};
+ghost use Rattle.tetra_bits.specs.Soft.{IsSoft, AllWithin};
 ghost use Rattle.tetra_diag.specs.Diagonal.{IsDepth, GatherStands, gathered, gathered_value, Fills};
 ghost use Rattle.tetra_diag.specs.Ring.{Puts, turned};
 
@@ -46,15 +46,14 @@ impl<const N: usize> Gather<N> {
     /// 432 values: none in the first `N - 1` pushes, then block m - N + 1 at the push numbered m. This project's own.
     pub fn push(&mut self, word: &Soft) -> Option<Soft>
         requires { length word.now ≡ 432 }
-        ensures block {
-            (words : List (List ℤ)) → GatherStands N words self.old
-            → result ≡ gathered N (words ++ word.now ∷ [])
-        }
-        ensures stands {
-            (words : List (List ℤ)) → GatherStands N words self.old
-            → GatherStands N (words ++ word.now ∷ []) self.new
-        }
+        ensures block { (words : List (List ℤ)) → GatherStands N words self.old
+            → result ≡ gathered N (words ++ word.now ∷ []) }
+        ensures stands { (words : List (List ℤ)) → GatherStands N words self.old
+            → GatherStands N (words ++ word.now ∷ []) self.new }
         ensures size { IfSome result (λ block. length block ≡ 432) }
+        // Values from -top to top stay so.
+        ensures within { (top : ℕ) (words : List (List ℤ)) → GatherStands N words self.old
+            → All (AllWithin top) (words ++ word.now ∷ []) → IfSome result (AllWithin top) }
     {
         let mut block = Soft::new();
         if self.push_into(word, &mut block) {
@@ -68,15 +67,13 @@ impl<const N: usize> Gather<N> {
     /// `N - 1` pushes.
     pub fn push_into(&mut self, word: &Soft, block: &mut Soft) -> bool
         requires { length word.now ≡ 432 }
-        ensures block {
-            (words : List (List ℤ)) → GatherStands N words self.old
-            → Fills (gathered N (words ++ word.now ∷ [])) result block.old block.new
-        }
-        ensures stands {
-            (words : List (List ℤ)) → GatherStands N words self.old
-            → GatherStands N (words ++ word.now ∷ []) self.new
-        }
+        ensures block { (words : List (List ℤ)) → GatherStands N words self.old
+            → Fills (gathered N (words ++ word.now ∷ [])) result block.old block.new }
+        ensures stands { (words : List (List ℤ)) → GatherStands N words self.old
+            → GatherStands N (words ++ word.now ∷ []) self.new }
         ensures size { IsTrue result → length block.new ≡ 432 }
+        ensures within { (top : ℕ) (words : List (List ℤ)) → GatherStands N words self.old
+            → All (AllWithin top) (words ++ word.now ∷ []) → IsTrue result → AllWithin top block.new }
     {
         self.oldest = keep_word(&mut self.words, self.oldest, word);
         complete::<N>(self.words.as_slice(), self.oldest, block)

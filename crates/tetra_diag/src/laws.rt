@@ -1,6 +1,6 @@
 // Laws of the definitions.
 ghost use Rattle.tetra_diag.specs.Arrives.{NoneWrongArrives, UndamagedArrives};
-ghost use Rattle.tetra_diag.specs.Kept.{GatheredFromLast, SpreadFromLast};
+ghost use Rattle.tetra_diag.specs.FromLast.{GatheredFromLast, SpreadFromLast};
 
 /// A block whose words all arrive undamaged arrives undamaged.
 pub fn undamaged_arrives()

@@ -44,14 +44,10 @@ impl<const N: usize> Spread<N> {
     /// 392-2 clause 8.2.4.2.
     pub fn push(&mut self, block: &Bits) -> Bits
         requires { length block.now ≡ 432 }
-        ensures word {
-            (blocks : List (List Bool)) → SpreadStands N blocks self.old
-            → result ≡ spread_word N (blocks ++ block.now ∷ [])
-        }
-        ensures stands {
-            (blocks : List (List Bool)) → SpreadStands N blocks self.old
-            → SpreadStands N (blocks ++ block.now ∷ []) self.new
-        }
+        ensures word { (blocks : List (List Bool)) → SpreadStands N blocks self.old
+            → result ≡ spread_word N (blocks ++ block.now ∷ []) }
+        ensures stands { (blocks : List (List Bool)) → SpreadStands N blocks self.old
+            → SpreadStands N (blocks ++ block.now ∷ []) self.new }
         ensures size { length result ≡ 432 }
     {
         let mut word = Bits::new();
@@ -62,14 +58,10 @@ impl<const N: usize> Spread<N> {
     /// Takes the next block, and fills `word` with its slot word.
     pub fn push_into(&mut self, block: &Bits, word: &mut Bits)
         requires { length block.now ≡ 432 }
-        ensures word {
-            (blocks : List (List Bool)) → SpreadStands N blocks self.old
-            → word.new ≡ spread_word N (blocks ++ block.now ∷ [])
-        }
-        ensures stands {
-            (blocks : List (List Bool)) → SpreadStands N blocks self.old
-            → SpreadStands N (blocks ++ block.now ∷ []) self.new
-        }
+        ensures word { (blocks : List (List Bool)) → SpreadStands N blocks self.old
+            → word.new ≡ spread_word N (blocks ++ block.now ∷ []) }
+        ensures stands { (blocks : List (List Bool)) → SpreadStands N blocks self.old
+            → SpreadStands N (blocks ++ block.now ∷ []) self.new }
         ensures size { length word.new ≡ 432 }
     {
         self.oldest = keep_block(&mut self.blocks, self.oldest, block);
@@ -78,11 +70,7 @@ impl<const N: usize> Spread<N> {
 }
 
 /// Keeps `block` in a ring, in place of the oldest where it is full, and answers where the oldest then is.
-fn keep_block<const N: usize>(
-    blocks: &mut ArrayVec<Bits, N>,
-    oldest: usize,
-    block: &Bits,
-) -> usize
+fn keep_block<const N: usize>(blocks: &mut ArrayVec<Bits, N>, oldest: usize, block: &Bits) -> usize
     requires { oldest < N }
     ensures { Puts N oldest blocks.old.items block.now result blocks.new.items }
 {

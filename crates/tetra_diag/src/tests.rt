@@ -37,7 +37,12 @@ fn said(values: &Soft) -> Bits {
 
 #[test]
 fn places_over_four(rt: HostRuntime) {
-    for (bit, later, place) in [(1usize, 0usize, 1usize), (429, 0, 108), (2, 1, 109), (432, 3, 432)] {
+    for (bit, later, place) in [
+        (1usize, 0usize, 1usize),
+        (429, 0, 108),
+        (2, 1, 109),
+        (432, 3, 432),
+    ] {
         let mut spread = Spread::<4>::new();
         let mut word = spread.push(&one_at(bit));
         for _block in 0..later {
@@ -49,7 +54,12 @@ fn places_over_four(rt: HostRuntime) {
 
 #[test]
 fn places_over_eight(rt: HostRuntime) {
-    for (bit, later, place) in [(1usize, 0usize, 1usize), (425, 0, 54), (2, 1, 55), (432, 7, 432)] {
+    for (bit, later, place) in [
+        (1usize, 0usize, 1usize),
+        (425, 0, 54),
+        (2, 1, 55),
+        (432, 7, 432),
+    ] {
         let mut spread = Spread::<8>::new();
         let mut word = spread.push(&one_at(bit));
         for _block in 0..later {

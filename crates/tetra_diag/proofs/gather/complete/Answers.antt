@@ -1,4 +1,4 @@
-use Rattle.std.proofs.Common.{◌≡◌, ◌<◌, ◌≤◌, arith, ap, ◌∙◌, length}
+use Rattle.std.proofs.Common.{◌≡◌, arith, length}
 use Rattle.tetra_diag.specs.Ring.{turned}
 use Rattle.tetra_diag.proofs.Entries.{gathered_none, gathered_some}
 use Rattle.tetra_diag.proofs.Rings.{length-turned}

@@ -8,10 +8,11 @@ use Rattle.tetra_diag.proofs.gather.fill_block.Goals as goal
 pub loop-q-init : goal.loop-q-init
 loop-q-init g c = c.clear.ensures ∙ sym (numbered_none (gathered_value g.row.N (turned c.args.oldest c.args.words.now)))
 
-pub push-requires-clause-room : goal.push-requires-clause-room
-push-requires-clause-room g c =
+pub push-requires : goal.push-requires
+push-requires g c =
     let e = ap length c.loop-q.invariant ∙ length-numbered (gathered_value g.row.N (turned c.args.oldest c.args.words.now)) c.loop-q.q in
-    omega (arith, e)
+    let fits : FitsSigned w16 c.value_of.result = search rules in
+    (omega arith, (omega (arith, e), (rw to_z-of_z c.value_of.ensures.soft.0, rw to_z-of_z c.value_of.ensures.soft.1)))
 
 pub loop-q-preserved : goal.loop-q-preserved
 loop-q-preserved g c =

@@ -1,7 +1,7 @@
 use Rattle.std.proofs.Common.{◌∙◌, ◌≡◌, FitsSigned, w16, rules, arith, length, ◌%◌, ◌<◌}
 use Rattle.std.proofs.lemmas.Int.{to_z-of_z}
 use Rattle.std.proofs.lemmas.Nat.{mod_below}
-use Rattle.tetra_diag.specs.Depths.{depth_width}
+use Rattle.tetra_diag.specs.lemmas.Depths.{depth_width}
 use Rattle.tetra_diag.specs.Ring.{turned}
 use Rattle.tetra_diag.proofs.Entries.{value_there}
 use Rattle.tetra_diag.proofs.Rings.{turned_read, length-turned}

@@ -1,7 +1,7 @@
-use Rattle.std.proofs.Common.{◌≡◌, ◌∙◌, sym, ap}
-use Rattle.tetra_diag.specs.Depths.{depth_width}
+use Rattle.std.proofs.Common.{◌∙◌, sym, ap}
+use Rattle.tetra_diag.specs.lemmas.Depths.{depth_width}
 use Rattle.tetra_diag.specs.Diagonal.{gathered}
-use Rattle.tetra_diag.specs.Kept.{gathered_last}
+use Rattle.tetra_diag.specs.lemmas.Kept.{gathered_last}
 use Rattle.tetra_diag.proofs.laws.gathered_from_last.Goals as goal
 
 pub returns : goal.returns

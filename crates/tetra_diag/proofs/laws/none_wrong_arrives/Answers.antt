@@ -1,4 +1,5 @@
-use Rattle.tetra_diag.specs.Arrives.{HasSignOrNone, arrives}
+use Rattle.tetra_diag.specs.Arrives.{HasSignOrNone}
+use Rattle.tetra_diag.specs.lemmas.Arrives.{arrives}
 use Rattle.tetra_diag.proofs.laws.none_wrong_arrives.Goals as goal
 
 pub returns : goal.returns

@@ -1,6 +1,6 @@
-use Rattle.std.proofs.Common.{◌≡◌, ◌∙◌, sym, ap}
+use Rattle.std.proofs.Common.{◌∙◌, sym, ap}
 use Rattle.tetra_diag.specs.Diagonal.{spread_word}
-use Rattle.tetra_diag.specs.Kept.{spread_word_last}
+use Rattle.tetra_diag.specs.lemmas.Kept.{spread_word_last}
 use Rattle.tetra_diag.proofs.laws.spread_from_last.Goals as goal
 
 pub returns : goal.returns

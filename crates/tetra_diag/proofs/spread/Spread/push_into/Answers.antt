@@ -1,6 +1,6 @@
 use Rattle.std.proofs.Common.{◌≡◌, length, List, Bool, ◌++◌, ◌∷◌, [], ap, ◌∙◌}
-use Rattle.tetra_diag.specs.Diagonal.{spread_word, last}
-use Rattle.tetra_diag.specs.Kept.{spread_word_last}
+use Rattle.tetra_diag.specs.Diagonal.{spread_word}
+use Rattle.tetra_diag.specs.lemmas.Kept.{spread_word_last}
 use Rattle.tetra_diag.specs.Ring.{turned}
 use Rattle.tetra_diag.proofs.Rings.{turned_put, ring_put, all_put}
 use Rattle.tetra_diag.proofs.spread.Spread.push_into.Goals as goal

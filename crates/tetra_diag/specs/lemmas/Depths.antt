@@ -20,7 +20,7 @@ pub depth_width : (n : ℕ) → IsDepth n → IsWidth n (432 / n)
 depth_width n h = elim (depth_cases n h) [
   | inl e ↦ rw e (record { whole = refl; some = lit≤ tt; most = lit≤ tt; wide = lit≤ tt })
   | inr f ↦ elim f [
-      | inl e ↦ rw e (record { whole = refl; some = lit≤ tt; most = lit≤ tt; wide = lit≤ tt })
-      | inr e ↦ rw e (record { whole = refl; some = lit≤ tt; most = lit≤ tt; wide = lit≤ tt })
-    ]
+    | inl e ↦ rw e (record { whole = refl; some = lit≤ tt; most = lit≤ tt; wide = lit≤ tt })
+    | inr e ↦ rw e (record { whole = refl; some = lit≤ tt; most = lit≤ tt; wide = lit≤ tt })
+  ]
 ]

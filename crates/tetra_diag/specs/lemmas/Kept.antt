@@ -5,19 +5,7 @@ use Rattle.std.proofs.lemmas.Bool.{lt-ltb, le-ltb, cases_lt}
 use Rattle.std.proofs.lemmas.Nat.{div_below}
 use Rattle.tetra_bits.specs.Numbered.{numbered_same}
 use Rattle.tetra_diag.specs.Diagonal.{IsDepth, block_before, spread_bit, spread_word, last, gathered_value, gathered}
-use Rattle.tetra_diag.specs.Depths.{IsWidth, depth_width}
-
--- blocks of which the last n are the same have the same slot word
-abbrev pub SpreadFromLast : Type 0
-SpreadFromLast =
-    (n : ℕ) (blocks other : List (List Bool)) → IsDepth n → last n blocks ≡ last n other
-    → spread_word n blocks ≡ spread_word n other
-
--- words of which the last n are the same complete the same block
-abbrev pub GatheredFromLast : Type 0
-GatheredFromLast =
-    (n : ℕ) (words other : List (List ℤ)) → IsDepth n → last n words ≡ last n other
-    → gathered n words ≡ gathered n other
+use Rattle.tetra_diag.specs.lemmas.Depths.{depth_width}
 
 module _ {X : Type 0} where
   pub length-last : (n : ℕ) (xs : List X) → length (last n xs) ≡ length xs - (length xs - n)

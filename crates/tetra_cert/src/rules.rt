@@ -15,7 +15,7 @@ pub struct Failing {
     pub rule: Rule,
 }
 
-#[tactic(auto, using(tetra_puncture::proofs::Steps::bit_taken_is, tetra_puncture::proofs::Steps::bit_taken_tail))]
+#[tactic(auto, using(tetra_puncture::specs::lemmas::Steps::bit_taken_is, tetra_puncture::specs::lemmas::Steps::bit_taken_tail))]
 /// The bit that the message takes at step `t`: behind its end a tail bit 0.
 pub fn taken(message: &Bits, t: usize) -> bool
     ensures { result ≡ bit_taken message.now t }

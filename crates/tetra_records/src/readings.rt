@@ -12,10 +12,6 @@ use arrayvec::ArrayVec;
 use tetra_bits::{Mark, Potentials, pack};
 use tetra_settings::{Field, Form, SlotReading};
 
-/// The most bytes that a reading record has: on the downlink a letter P with its access field, two half slots and
-/// protected data, each with its certificate.
-pub const LONGEST_READING: usize = 18743;
-
 /// The reading record: a letter, and for each field a mark, a metric of two bytes, the bits packed, and
 /// in form `Audit` the certificate of a trellis field, a row of 16 potentials before each step and one
 /// behind the last, two bytes each. The reading is well formed, and each metric and potential is at
@@ -30,7 +26,8 @@ pub fn reading_bytes(reading: &SlotReading, form: Form) -> ArrayVec<u8, 18743>
     record
 }
 
-/// Puts the reading record behind what stands in `out`, which has room for the longest one.
+/// Puts the reading record behind what stands in `out`, which has room for the longest one: on the downlink a letter P
+/// with its access field, two half slots and protected data, each with its certificate.
 pub fn add_reading<const N: usize>(reading: &SlotReading, form: Form, out: &mut ArrayVec<u8, N>)
     requires formed { IsWellFormed reading.now }
     requires small { All IsSmall reading.now.fields.items }

@@ -4,7 +4,7 @@ use Rattle.std.proofs.Math.ListN.{length-set}
 use Rattle.std.proofs.lemmas.Bool.{cases_lt}
 use Rattle.tetra_bits.specs.Readings.{entry}
 use Rattle.tetra_puncture.specs.Plan.{CodePlan}
-use Rattle.tetra_puncture.proofs.Rows.{BackFrom, back_start}
+use Rattle.tetra_puncture.specs.lemmas.Rows.{BackFrom, back_start}
 
 row_other : (rows : List (List ℕ)) (t u : ℕ) (new : List ℕ) → u ≢ t → get_or (set rows t new) u [] ≡ get_or rows u []
 row_other rows t u new ne = rw get_or-set_other refl

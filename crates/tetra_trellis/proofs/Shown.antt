@@ -11,12 +11,12 @@ use Rattle.tetra_puncture.specs.Rules.{IsAccepted}
 use Rattle.tetra_puncture.specs.Spread.{spread_value, spread_values}
 use Rattle.tetra_puncture.specs.ToGo.{potentials_of}
 use Rattle.tetra_puncture.specs.Trellis.{AllCostsToGo}
-use Rattle.tetra_puncture.proofs.Bounds.{soft_at}
-use Rattle.tetra_puncture.proofs.Certificates.{certified}
-use Rattle.tetra_puncture.proofs.Rows.{traced_accepted, backward_is_cost_to_go}
-use Rattle.tetra_puncture.proofs.Sent.{cost_to_go_sent}
-use Rattle.tetra_puncture.proofs.ToGo.{table_is_potentials}
-use Rattle.tetra_puncture.proofs.Values.{value_sent, value_at_spread}
+use Rattle.tetra_puncture.specs.lemmas.Bounds.{soft_at}
+use Rattle.tetra_puncture.specs.lemmas.Certificates.{certified}
+use Rattle.tetra_puncture.specs.lemmas.Rows.{traced_accepted, backward_is_cost_to_go}
+use Rattle.tetra_puncture.specs.lemmas.Sent.{cost_to_go_sent}
+use Rattle.tetra_puncture.specs.lemmas.ToGo.{table_is_potentials}
+use Rattle.tetra_puncture.specs.lemmas.Values.{value_sent, value_at_spread}
 
 -- sent values are soft where those at the places of the mother word are
 soft_sent : (p : CodePlan) (r : List ℤ) → PlacesRise p → PlacesLie p → length r ≡ p.sent → AllSoft (spread_values p r) → AllSoft r

@@ -5,7 +5,7 @@ use Rattle.tetra_mother.specs.Mother.{next_state}
 use Rattle.tetra_puncture.specs.Plan.{CodePlan}
 use Rattle.tetra_puncture.specs.Trellis.{over_branch}
 use Rattle.tetra_puncture.specs.Decoding.{least_branch}
-use Rattle.tetra_puncture.proofs.Rows.{least_both, least_tail}
+use Rattle.tetra_puncture.specs.lemmas.Rows.{least_both, least_tail}
 use Rattle.tetra_trellis.specs.declared.labels.Labels.{Labels}
 use Rattle.tetra_trellis.specs.Labels.{HasLabels, IsStep, AreCosts}
 use Rattle.tetra_trellis.specs.Rows.{by_label}

@@ -1,4 +1,4 @@
-use Rattle.std.proofs.Common.{◌≡◌, length, arith, rules, ap, sym, ◌∙◌}
+use Rattle.std.proofs.Common.{◌≡◌, ◌<◌, length, arith, rules, ap, sym, ◌∙◌}
 use Rattle.std.proofs.Common.{to_z, of_z, w16}
 use Rattle.std.proofs.lemmas.Int.{to_z-of_z}
 use Rattle.tetra_bits.specs.Numbered.{numbered_none, numbered_push, length-numbered}
@@ -9,8 +9,11 @@ use Rattle.tetra_scramble.proofs.flips.flip_soft_into.Goals as goal
 pub loop-i-init : goal.loop-i-init
 loop-i-init c = c.clear.ensures ∙ sym (numbered_none (turned_value c.args.x.now c.args.key.now c.args.from))
 
-pub push-requires-clause-room : goal.push-requires-clause-room
-push-requires-clause-room c = omega (arith, ap length c.loop-i.invariant, length-numbered (turned_value c.args.x.now c.args.key.now c.args.from) c.loop-i.i)
+pub push-requires : goal.push-requires
+push-requires c =
+    let size : length c.loop-i.values ≡ c.loop-i.i = ap length c.loop-i.invariant ∙ length-numbered (turned_value c.args.x.now c.args.key.now c.args.from) c.loop-i.i in
+    let room : length c.loop-i.values < 432 = omega (arith, size) in
+    (omega arith, (room, search rules))
 
 pub loop-i-preserved : goal.loop-i-preserved
 loop-i-preserved c =

@@ -1,6 +1,6 @@
 use Rattle.std.proofs.Common.{◌≡◌, ◌≤◌, ◌+◌, ◌-◌, ◌∙◌, rules, length, arith, sym, refl}
 use Rattle.std.proofs.lemmas.List.{get_or-replicate}
-use Rattle.tetra_puncture.proofs.Rows.{BackFrom, back_step}
+use Rattle.tetra_puncture.specs.lemmas.Rows.{BackFrom, back_step}
 use Rattle.tetra_trellis.proofs.Back.{first_row, states_more}
 use Rattle.tetra_trellis.proofs.rows.fill.Goals as goal
 

@@ -1,5 +1,5 @@
 use Rattle.std.proofs.Common.{◌≡◌, ℕ, ◌≤◌, [], length, get_or}
-use Rattle.tetra_puncture.proofs.Rows.{BackFrom}
+use Rattle.tetra_puncture.specs.lemmas.Rows.{BackFrom}
 use Rattle.tetra_trellis.proofs.rows.fill.Given as goal
 
 abbrev pub invariant-loop-t : goal.invariant-loop-t

@@ -4,6 +4,7 @@ use Rattle.std.specs.Prelude.{ℤ, pos}
 use Rattle.tetra_bits.specs.Cost.{metric}
 use Rattle.tetra_bits.specs.Digits.{digits}
 use Rattle.tetra_bits.specs.Numbered.{length-numbered}
+use Rattle.tetra_bits.specs.Plain.{best_plain}
 use Rattle.tetra_bits.specs.Undamaged.{IsUndamaged}
 use Rattle.tetra_bits.specs.lemmas.Written.{written_free, others_cost, free_is_best}
 use Rattle.tetra_interleave.specs.Block.{IsBlock, block_place}

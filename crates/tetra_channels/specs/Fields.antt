@@ -1,5 +1,5 @@
 -- What is read of a field. This project's own.
-use Rattle.std.specs.Prelude.{◌≡◌, ℕ, ◌+◌, ◌*◌, ◌≤◌, ℤ, List, [], length, slice_index_or, Some, None}
+use Rattle.std.specs.Prelude.{◌≡◌, ℕ, ◌+◌, ◌*◌, ◌<◌, ◌≤◌, ℤ, List, [], length, slice_index_or, Some, None}
 use Rattle.tetra_bits.specs.Plain.{best_plain}
 use Rattle.tetra_bits.specs.Readings.{entry}
 use Rattle.tetra_bits.specs.Soft.{AllWithin}
@@ -45,7 +45,8 @@ pub record IsSized (plan : CodePlan) (reading : Reading) : Type 0 where
 -- its numbers: the metric and the costs to go are at most as much for each sent bit as the greatest of the values
 pub record IsWithinTop (plan : CodePlan) (top : ℕ) (reading : Reading) : Type 0 where
   pub metric : reading.metric ≤ top * plan.sent
-  pub numbers : (table : List (List ℕ)) → reading.potentials ≡ Some table → (t s : ℕ) → entry table t s ≤ top * plan.sent
+  pub numbers : (table : List (List ℕ)) → reading.potentials ≡ Some table
+      → (t s : ℕ) → t ≤ plan.steps → s < 16 → entry table t s ≤ top * plan.sent
 
 -- so they are for every greatest value
 abbrev pub IsBoundedBy : CodePlan → List ℤ → Reading → Type 0

@@ -96,9 +96,7 @@ impl Plan for SpeechHalf {
 
     fn place(j: usize) -> usize {
         const CLASS_1: [usize; 3] = [1, 2, 4];
-        const CLASS_2: [usize; 17] = [
-            1, 2, 3, 4, 5, 7, 8, 10, 11, 13, 14, 16, 17, 19, 20, 22, 23,
-        ];
+        const CLASS_2: [usize; 17] = [1, 2, 3, 4, 5, 7, 8, 10, 11, 13, 14, 16, 17, 19, 20, 22, 23];
         if j <= 84 {
             6 * ((j - 1) / 3) + CLASS_1[(j - 1) % 3]
         } else {

@@ -1,11 +1,11 @@
 -- The laws of the plan of speech in half a slot.
-use Rattle.std.proofs.Common.{ℕ, ◌+◌, ◌-◌, ◌*◌, ◌/◌, ◌%◌, ◌<◌, ◌≤◌, ◌≡◌, inl, inr, true, false, arith, refl, lit≤, ap, ◌∙◌}
+use Rattle.std.proofs.Common.{ℕ, ◌+◌, ◌-◌, ◌*◌, ◌/◌, ◌%◌, ◌<◌, ◌≤◌, ◌≡◌, inl, inr, true, false, arith, refl, lit≤, ◌∙◌}
 use Rattle.std.specs.Prelude.{nat_le}
 use Rattle.std.proofs.lemmas.Bool.{cases_lt}
 use Rattle.std.proofs.lemmas.Bool.Decides.{nat_tests}
 use Rattle.tetra_puncture.specs.Places.{speech_half, speech_half_place, class1_place, half_class2_place}
 use Rattle.tetra_puncture.specs.Plan.{WordsDiffer, HasSizes, PlacesRise, PlacesLie}
-use Rattle.tetra_puncture.specs.lemmas.Differ.{IsSent, KeepsFirst, words_differ}
+use Rattle.tetra_puncture.specs.lemmas.Differ.{IsSent, words_differ}
 use Rattle.tetra_puncture.specs.lemmas.Speech.{class1_rises, half_rises, class1_lies, half_lies, class1_first, half_first}
 
 pub speech_half_sizes : HasSizes speech_half
@@ -26,18 +26,18 @@ speech_half_rise j a b = elim (cases_lt j 84) [
   | inl early ↦ omega (arith, front j (omega arith), front (j + 1) (omega arith), class1_rises j (j + 1) a (omega arith))
   | inr late ↦ elim (cases_lt 84 j) [
     | inl above ↦ omega (
-        arith,
-        behind j above,
-        behind (j + 1) (omega arith),
-        half_rises (j - 84) (j + 1 - 84) (omega arith) (omega arith),
-      )
+      arith,
+      behind j above,
+      behind (j + 1) (omega arith),
+      half_rises (j - 84) (j + 1 - 84) (omega arith) (omega arith),
+    )
     | inr last ↦ omega (
-        arith,
-        front j last,
-        behind (j + 1) (omega arith),
-        class1_lies j 28 a (omega arith),
-        half_lies (j + 1 - 84) (omega arith) (omega arith),
-      )
+      arith,
+      front j last,
+      behind (j + 1) (omega arith),
+      class1_lies j 28 a (omega arith),
+      half_lies (j + 1 - 84) (omega arith) (omega arith),
+    )
   ]
 ]
 

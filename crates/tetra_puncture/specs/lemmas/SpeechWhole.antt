@@ -1,11 +1,11 @@
 -- The laws of the plan of speech in a whole slot.
-use Rattle.std.proofs.Common.{ℕ, ◌+◌, ◌-◌, ◌*◌, ◌/◌, ◌%◌, ◌<◌, ◌≤◌, ◌≡◌, inl, inr, true, false, arith, refl, lit≤, ap, ◌∙◌}
+use Rattle.std.proofs.Common.{ℕ, ◌+◌, ◌-◌, ◌*◌, ◌/◌, ◌%◌, ◌<◌, ◌≤◌, ◌≡◌, inl, inr, true, false, arith, refl, lit≤, ◌∙◌}
 use Rattle.std.specs.Prelude.{nat_le}
 use Rattle.std.proofs.lemmas.Bool.{cases_lt}
 use Rattle.std.proofs.lemmas.Bool.Decides.{nat_tests}
 use Rattle.tetra_puncture.specs.Places.{speech_whole, speech_whole_place, class1_place, whole_class2_place}
 use Rattle.tetra_puncture.specs.Plan.{WordsDiffer, HasSizes, PlacesRise, PlacesLie}
-use Rattle.tetra_puncture.specs.lemmas.Differ.{IsSent, KeepsFirst, words_differ}
+use Rattle.tetra_puncture.specs.lemmas.Differ.{IsSent, words_differ}
 use Rattle.tetra_puncture.specs.lemmas.Speech.{class1_rises, whole_rises, class1_lies, whole_lies, class1_first, whole_first}
 
 pub speech_whole_sizes : HasSizes speech_whole
@@ -26,18 +26,18 @@ speech_whole_rise j a b = elim (cases_lt j 168) [
   | inl early ↦ omega (arith, front j (omega arith), front (j + 1) (omega arith), class1_rises j (j + 1) a (omega arith))
   | inr late ↦ elim (cases_lt 168 j) [
     | inl above ↦ omega (
-        arith,
-        behind j above,
-        behind (j + 1) (omega arith),
-        whole_rises (j - 168) (j + 1 - 168) (omega arith) (omega arith),
-      )
+      arith,
+      behind j above,
+      behind (j + 1) (omega arith),
+      whole_rises (j - 168) (j + 1 - 168) (omega arith) (omega arith),
+    )
     | inr last ↦ omega (
-        arith,
-        front j last,
-        behind (j + 1) (omega arith),
-        class1_lies j 56 a (omega arith),
-        whole_lies (j + 1 - 168) 18 (omega arith) (omega arith),
-      )
+      arith,
+      front j last,
+      behind (j + 1) (omega arith),
+      class1_lies j 56 a (omega arith),
+      whole_lies (j + 1 - 168) 18 (omega arith) (omega arith),
+    )
   ]
 ]
 

@@ -1,3 +1,4 @@
 pub mod Access
 pub mod Code
+pub mod Search
 pub mod lemmas

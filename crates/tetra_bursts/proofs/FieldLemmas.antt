@@ -1,6 +1,6 @@
 -- What is read of the fields of undamaged bursts.
 use Rattle.std.proofs.Common.{◌≡◌, ℕ, ◌+◌, Bool, true, false, ℤ, List, [], ◌++◌, Option, Some, None, is_some, length, take, drop, refl, sym, ◌∙◌}
-use Rattle.std.proofs.lemmas.List.{append-nil, append_assoc}
+use Rattle.std.proofs.lemmas.List.{append-nil}
 use Rattle.tetra_bits.specs.Undamaged.{IsUndamaged}
 use Rattle.tetra_bursts.specs.Table.{normal_down, sync_down, normal_up, subslot, silence}
 use Rattle.tetra_bursts.specs.Slot.{read}
@@ -23,7 +23,7 @@ written_arrives = record {
 }
 
 -- a field in one span
-whole : (bits : List Bool) (values : List ℤ) (n : ℕ) → length bits ≡ n → IsUndamaged (taken bits 0 n ++ []) values → IsUndamaged bits values
+pub whole : (bits : List Bool) (values : List ℤ) (n : ℕ) → length bits ≡ n → IsUndamaged (taken bits 0 n ++ []) values → IsUndamaged bits values
 whole bits values n l h = rw (append-nil (taken bits 0 n), all_taken bits n l) at h
 
 -- and in two

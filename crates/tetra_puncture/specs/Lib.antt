@@ -7,4 +7,6 @@ pub mod Decoding
 pub mod Rules
 pub mod Certified
 pub mod ToGo
-pub mod Lemmas
+pub mod lemmas
+pub mod Labels
+pub mod Steps

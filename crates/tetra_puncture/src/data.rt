@@ -10,7 +10,7 @@ pub struct P292;
 
 impl Plan for P292 {
     ghost use Rattle.tetra_puncture.specs.Places.{p292};
-    ghost use Rattle.tetra_puncture.specs.Lemmas.P292.{p292_sizes, p292_rise, p292_lie, p292_differ};
+    ghost use Rattle.tetra_puncture.specs.lemmas.P292.{p292_sizes, p292_rise, p292_lie, p292_differ};
     ghost use Rattle.std.specs.Prelude.{refl};
 
     type Code = Quarter;
@@ -57,7 +57,7 @@ pub struct P148;
 
 impl Plan for P148 {
     ghost use Rattle.tetra_puncture.specs.Places.{p148};
-    ghost use Rattle.tetra_puncture.specs.Lemmas.P148.{p148_sizes, p148_rise, p148_lie, p148_differ};
+    ghost use Rattle.tetra_puncture.specs.lemmas.P148.{p148_sizes, p148_rise, p148_lie, p148_differ};
     ghost use Rattle.std.specs.Prelude.{refl};
 
     type Code = Quarter;

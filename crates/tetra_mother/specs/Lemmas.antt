@@ -1,2 +1,0 @@
--- Lemmas that the crates above cite. They are proved, and no contract means anything by them.
-pub mod States

@@ -5,6 +5,7 @@ mod costs;
 mod laws;
 mod searching;
 mod table;
+pub mod walk;
 mod words;
 
 pub use laws::{undamaged_arrives, words_differ};

@@ -87,7 +87,7 @@ def run(main):
         status = main(sys.argv[1:])
         sys.stdout.flush()
     except Fault as fault:
-        line, status = str(fault), 2
+        line, status = str(fault), fault.status
     except BrokenPipeError:
         os.dup2(os.open(os.devnull, os.O_WRONLY), sys.stdout.fileno())
         line, status = "the output was closed before all was written", 5

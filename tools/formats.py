@@ -12,7 +12,11 @@ ROUND = 4320
 
 
 class Fault(Exception):
-    """What is wrong with a file or a word, as one line."""
+    """What is wrong with a file or a word, as one line, and the status that a tool ends with."""
+
+    def __init__(self, line, status=2):
+        super().__init__(line)
+        self.status = status
 
 
 class Field(NamedTuple):

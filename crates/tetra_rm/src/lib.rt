@@ -1,9 +1,11 @@
 //! The access code of 14 message bits and 16 further bits. Its rows are this project's own.
 #![tactic(auto)]
 
+mod costs;
 mod laws;
 mod searching;
 mod table;
+pub mod walk;
 mod words;
 
 pub use laws::{undamaged_arrives, words_differ};

@@ -1,4 +1,5 @@
 // That the clauses mean the rows, words and messages that were asked for.
+use crate::walk::turned;
 use crate::{Rows, decode, encode, own_rows};
 use tetra_bits::{Bits, Soft};
 
@@ -57,4 +58,10 @@ fn signs_of_a_word(rt: HostRuntime) {
 fn rows_of_zeros(rt: HostRuntime) {
     let reading = decode(&Rows([0; 14]), &values(0x0001_1F5F));
     assert_eq!(rt; (reading.message, reading.metric), (1, 11 * 127));
+}
+
+#[test]
+fn last_bit_turned(rt: HostRuntime) {
+    let metric = turned(&own_rows(), &values(0x0001_1F5F), 1, 0, 14);
+    assert_eq!(rt; metric, 12 * 127);
 }

@@ -1,14 +1,14 @@
 -- Bursts that arrive undamaged.
-use Rattle.std.proofs.Common.{◌≡◌, ℕ, ◌+◌, ◌-◌, ◌<◌, ◌≤◌, ◌≢◌, Bool, true, false, ℤ, pos, negsuc, List, [], ◌∷◌, ◌++◌, length, take, drop, get_or, cond, nat_eq, nat_le, arith, refl, ap, sym, ◌∙◌, inl, inr}
+use Rattle.std.proofs.Common.{◌≡◌, ℕ, ◌+◌, ◌-◌, ◌<◌, Bool, true, false, ℤ, pos, List, [], ◌∷◌, ◌++◌, length, take, drop, cond, nat_eq, nat_le, arith, refl, ap, sym, ◌∙◌, inl, inr}
 use Rattle.std.proofs.lemmas.Bool.{cases_lt, le-leb, lt-leb, eqb-true}
-use Rattle.std.proofs.lemmas.List.{get_or-take, get_or-drop, get_or_append_left, get_or-append_right, length-append, length-take-le, length-drop, append-nil}
+use Rattle.std.proofs.lemmas.List.{get_or-take, get_or-drop, get_or_append_left, get_or-append_right, length-append, length-take-le, length-drop}
 use Rattle.tetra_bits.specs.Numbered.{numbered, length-numbered, get_or-numbered, is_numbered}
 use Rattle.tetra_bits.specs.Order.{bit_at}
 use Rattle.tetra_bits.specs.Soft.{value_at}
 use Rattle.tetra_bits.specs.Undamaged.{HasSign, IsUndamaged}
-use Rattle.tetra_bursts.specs.Table.{is_part, number, total}
+use Rattle.tetra_bursts.specs.Table.{is_part, number}
 use Rattle.tetra_bursts.specs.Slot.{Carried, with_pairs, bits_of, level, written, read}
-use Rattle.tetra_bursts.specs.Laws.{part_at, number_at, part_bit, part_value, standing}
+use Rattle.tetra_bursts.specs.Laws.{part_at, number_at, part_bit, part_value}
 use Rattle.tetra_bursts.specs.Arrives.{is_free, KeepsBy}
 use Rattle.tetra_bursts.specs.declared.table.Part.{Part}
 use Rattle.tetra_bursts.specs.declared.table.Part.TheVariants.{Silent, Tail, Training, Q, X, Frequency, First, Second, Aach, Sync, Pairs}

@@ -1,7 +1,7 @@
 -- What is read by one table behind another.
-use Rattle.std.proofs.Common.{◌≡◌, ℕ, ◌+◌, ℤ, List, [], ◌∷◌, ◌++◌, take, drop, cond, refl, ap, sym, ◌∙◌}
+use Rattle.std.proofs.Common.{◌≡◌, ◌+◌, ℤ, List, [], ◌∷◌, ◌++◌, take, drop, cond, refl, ap, sym, ◌∙◌}
 use Rattle.std.proofs.lemmas.List.{append_assoc, drop-drop}
-use Rattle.tetra_bursts.specs.Table.{is_part, total, subslot, control_up}
+use Rattle.tetra_bursts.specs.Table.{is_part, total, subslot}
 use Rattle.tetra_bursts.specs.Slot.{read}
 use Rattle.tetra_bursts.specs.Fields.{sub_first, sub_second}
 use Rattle.tetra_bursts.specs.declared.table.Part.{Part}

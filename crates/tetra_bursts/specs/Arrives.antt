@@ -1,5 +1,5 @@
--- Bursts that arrive undamaged: at each position of a sent bit the received value has the sign of that bit and is not 0.
--- Silent positions, silent subslots and phase pairs are free. This project's own.
+-- Bursts that arrive undamaged: at each position of a sent bit the received value has the sign of that bit and is not
+-- 0. Silent positions, silent subslots and phase pairs are free. This project's own.
 use Rattle.std.specs.Prelude.{◌≡◌, ◌<◌, ◌≤◌, ◌-◌, ℕ, ℤ, Bool, true, false, List, Option, Some, is_some, length}
 use Rattle.tetra_bits.specs.Soft.{value_at}
 use Rattle.tetra_bits.specs.Undamaged.{HasSign, IsUndamaged}

@@ -2,7 +2,7 @@
 use Rattle.std.proofs.Common.{◌≡◌, ℕ, ◌<◌, List, ◌++◌, length, ap, sym, ◌∙◌, inl, inr, subst, true, false, refl, arith, length-append}
 use Rattle.std.specs.declared.option.Option.{Option}
 use Rattle.std.specs.Io.KnownBytes.{Consumes}
-use Rattle.tetra_io.proofs.Told.{AreTold-some, AreTold-behind}
+use Rattle.tetra_io.specs.lemmas.Told.{AreTold-some, AreTold-behind}
 use Rattle.tetra_settings.specs.declared.types.Settings.{Settings}
 use Rattle.tetra_settings.specs.declared.blocks.SlotBlocks.{SlotBlocks}
 use Rattle.tetra_settings.specs.Slots.{byte_of}
@@ -29,9 +29,9 @@ no_built_record settings before bytes none x rest fits e = none x rest fits.0 e
 -- bytes that begin with no record
 pub bad_record : (settings : Settings) (before : List SlotBlocks) (n : ℕ) (fault : RecordFault) (old new : Option (List ℕ)) → n ≡ length before
     → BeginsNone settings n fault old new → NoneBegins (encoding settings) before old (Input (length before) fault)
-bad_record settings before n fault old new is (bytes, told, some, begins, reason, went) =
-    let none = subst (λ k. NoRecordBegins settings k bytes) is begins in
-    (bytes, told, (some, no_built_record settings before bytes none, (refl, none, ap (λ k. why settings k bytes) (sym is) ∙ reason)))
+bad_record settings before n fault old new is bad =
+    let none = subst (λ k. NoRecordBegins settings k bad.bytes) is bad.none in
+    (bad.bytes, bad.told, (bad.some, no_built_record settings before bad.bytes none, (refl, none, ap (λ k. why settings k bad.bytes) (sym is) ∙ bad.reason)))
 
 -- part of a record
 pub part_record : (settings : Settings) (before : List SlotBlocks) (n : ℕ) (old new : Option (List ℕ)) → n ≡ length before

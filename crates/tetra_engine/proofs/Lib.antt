@@ -9,3 +9,5 @@ pub mod Encoded
 pub mod OwnAudits
 pub mod OwnReadings
 pub mod Said
+pub mod MeetsEnd
+pub mod Intakes

@@ -2,9 +2,9 @@
 use Rattle.std.proofs.Common.{ℕ, ◌+◌, ◌-◌, ◌*◌, ◌≡◌, List, [], ◌∷◌, ◌++◌, length, get_or, arith, ap, sym, ◌∙◌}
 use Rattle.tetra_bits.specs.Numbered.{numbered, numbered_push, length-numbered}
 use Rattle.tetra_interleave.specs.Matrix.{matrix_place}
-use Rattle.tetra_interleave.specs.MatrixLemmas.{place_back, matrices_are_one_to_one}
+use Rattle.tetra_interleave.specs.lemmas.Matrices.{place_back, matrices_are_one_to_one}
 use Rattle.tetra_interleave.specs.Placed.{IsOneToOne, IsPlaced, entry_from, placed, taken}
-use Rattle.tetra_interleave.specs.PlacedLemmas.{length-taken, taken_is, placed_only}
+use Rattle.tetra_interleave.specs.lemmas.Placed.{length-taken, taken_is, placed_only}
 
 module _ {X : Type 0} where
   pub column_more : (d : X) (place : ℕ → ℕ) (x old new : List X) (p at : ℕ) (v : X) → old ≡ numbered (entry_from d place x) p → new ≡ old ++ v ∷ []

@@ -6,8 +6,8 @@ use Rattle.tetra_bits.specs.Numbered.{numbered, numbered_push, numbered_same, le
 use Rattle.tetra_interleave.specs.Block.{IsBlock, block_place}
 use Rattle.tetra_interleave.specs.Placed.{entry_from, placed, taken}
 use Rattle.tetra_interleave.specs.Steps.{step_entry}
-use Rattle.tetra_interleave.specs.BlockLemmas.{add-mod_second, out_index, blocks_are_one_to_one}
-use Rattle.tetra_interleave.specs.PlacedLemmas.{placed_only}
+use Rattle.tetra_interleave.specs.lemmas.Blocks.{add-mod_second, out_index, blocks_are_one_to_one}
+use Rattle.tetra_interleave.specs.lemmas.Placed.{placed_only}
 
 -- one step further
 pub step_index : (a b c m : ℕ) → a + c ≡ b → (a % m + c) % m ≡ b % m

@@ -1,8 +1,6 @@
 pub mod Block
-pub mod BlockLemmas
 pub mod Laws
 pub mod Matrix
-pub mod MatrixLemmas
 pub mod Placed
-pub mod PlacedLemmas
 pub mod Steps
+pub mod lemmas

@@ -2,7 +2,7 @@
 use Rattle.std.specs.Prelude.{ℕ, ◌≡◌, ◌<◌, ◌≤◌, List, length, take, Ok, Err, Result}
 use Rattle.std.specs.Io.KnownBytes.{Consumes}
 use Rattle.std.specs.declared.option.Option.{Option}
-use Rattle.tetra_io.specs.Streams.{Rose}
+use Rattle.tetra_io.specs.Streams.{Rose, next_count}
 use Rattle.tetra_io.specs.Filling.{AreTold, Went}
 use Rattle.tetra_records.specs.declared.faults.RecordFault.TheVariants.{Truncated}
 use Rattle.tetra_records.specs.declared.faults.NextFault.{NextFault}
@@ -20,7 +20,8 @@ EndsShort layout old new =
     (bytes : List ℕ) × AreTold old bytes × (length bytes < record_bytes layout bytes) × Consumes old new bytes
 
 -- the front of the buffer holds the bytes behind a letter; or they end before, or a read failed
-abbrev pub BehindGives : Layout → Option (List ℕ) → Option (List ℕ) → Result ℕ NextFault → List ℕ → Type 0
+abbrev pub BehindGives : Layout → Option (List ℕ) → Option (List ℕ)
+    → Result ℕ NextFault → List ℕ → Type 0
 BehindGives layout old new (Ok n) buf =
     (head_bytes layout ≤ n) × (n ≤ 88) × (n ≡ record_bytes layout (take n buf)) × Consumes old new (take n buf)
 BehindGives layout old new (Err (Source fault)) buf = TakesLess layout old new
@@ -31,3 +32,9 @@ abbrev pub BehindRose : ℕ → ℕ → Result ℕ NextFault → Type 0
 BehindRose before now (Ok n) = Unit {0}
 BehindRose before now (Err (Source fault)) = Rose before now
 BehindRose before now (Err (Bad fault)) = Unit {0}
+
+-- the count of ends: it rises by one exactly where the bytes end before the record
+abbrev pub ends_behind_letter : Result ℕ NextFault → ℕ → ℕ
+ends_behind_letter (Ok n) before = before
+ends_behind_letter (Err (Source fault)) before = before
+ends_behind_letter (Err (Bad fault)) before = next_count before

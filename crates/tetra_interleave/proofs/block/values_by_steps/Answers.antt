@@ -1,6 +1,7 @@
-use Rattle.std.proofs.Common.{◌≡◌, ◌+◌, ◌*◌, ◌%◌, arith, rules, pos, get_or, ap, ◌∙◌, FitsSigned, w16}
+use Rattle.std.proofs.Common.{◌≡◌, ◌+◌, ◌*◌, ◌%◌, arith, rules, pos, get_or, ap, ◌∙◌, FitsSigned, w16, to_z, of_z}
 use Rattle.std.proofs.lemmas.Int.{to_z-of_z}
 use Rattle.tetra_bits.specs.Numbered.{numbered, numbered_none}
+use Rattle.tetra_bits.specs.Soft.{IsSoft}
 use Rattle.tetra_interleave.specs.Steps.{step_entry}
 use Rattle.tetra_interleave.proofs.BySteps.{start, step_index}
 use Rattle.tetra_interleave.proofs.BySteps.{step_more, length_so_far}
@@ -13,10 +14,11 @@ loop-value-init g c =
       entries = rw (numbered_none (step_entry (pos 0) g.row.K c.args.from c.args.by c.args.x.now)) c.clear.ensures;
     }
 
-pub push-requires-clause-room : goal.push-requires-clause-room
-push-requires-clause-room g c =
+pub push-requires : goal.push-requires
+push-requires g c =
     let l = length_so_far (step_entry (pos 0) g.row.K c.args.from c.args.by c.args.x.now) c.loop-value.all c.loop-value._value c.loop-value.invariant.entries in
-    omega (arith, l)
+    let soft : IsSoft (to_z w16 (of_z w16 c.get.result)) = rw (to_z-of_z w16 c.get.result (search rules)) c.get.ensures.soft in
+    (omega arith, (omega (arith, l), soft))
 
 pub loop-value-preserved : goal.loop-value-preserved
 loop-value-preserved g c =

@@ -1,6 +1,6 @@
 use Rattle.std.proofs.Common.{◌≡◌, ◌+◌, ◌-◌, arith}
 use Rattle.tetra_interleave.specs.Matrix.{matrix_place}
-use Rattle.tetra_interleave.specs.MatrixLemmas.{cell_below}
+use Rattle.tetra_interleave.specs.lemmas.Matrices.{cell_below}
 use Rattle.tetra_interleave.proofs.matrix.place.Goals as goal
 
 pub returns-clause-value : goal.returns-clause-value

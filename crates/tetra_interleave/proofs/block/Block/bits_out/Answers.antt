@@ -1,8 +1,8 @@
 use Rattle.std.proofs.Common.{false}
 use Rattle.tetra_interleave.specs.Block.{block_place}
 use Rattle.tetra_interleave.proofs.BySteps.{placed_steps}
-use Rattle.tetra_interleave.specs.BlockLemmas.{blocks_are_one_to_one}
-use Rattle.tetra_interleave.specs.PlacedLemmas.{placed_is, same_source, undone}
+use Rattle.tetra_interleave.specs.lemmas.Blocks.{blocks_are_one_to_one}
+use Rattle.tetra_interleave.specs.lemmas.Placed.{placed_is, same_source, undone}
 use Rattle.tetra_interleave.proofs.block.Block.bits_out.Goals as goal
 
 pub returns-clause-value : goal.returns-clause-value

@@ -1,8 +1,8 @@
 use Rattle.std.proofs.Common.{◌≡◌, length, pos, ap, ◌∙◌}
 use Rattle.tetra_interleave.specs.Block.{block_place}
 use Rattle.tetra_interleave.proofs.BySteps.{taken_steps}
-use Rattle.tetra_interleave.specs.BlockLemmas.{blocks_are_one_to_one}
-use Rattle.tetra_interleave.specs.PlacedLemmas.{length-taken, taken_is, same_target, undone}
+use Rattle.tetra_interleave.specs.lemmas.Blocks.{blocks_are_one_to_one}
+use Rattle.tetra_interleave.specs.lemmas.Placed.{length-taken, taken_is, same_target, undone}
 use Rattle.tetra_interleave.proofs.block.Block.soft_back_into.Goals as goal
 
 pub returns-clause-value : goal.returns-clause-value

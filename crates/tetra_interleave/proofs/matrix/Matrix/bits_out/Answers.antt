@@ -1,7 +1,7 @@
 use Rattle.std.proofs.Common.{◌*◌, false}
 use Rattle.tetra_interleave.specs.Matrix.{matrix_place}
-use Rattle.tetra_interleave.specs.MatrixLemmas.{matrices_are_one_to_one}
-use Rattle.tetra_interleave.specs.PlacedLemmas.{placed_is, same_source, undone}
+use Rattle.tetra_interleave.specs.lemmas.Matrices.{matrices_are_one_to_one}
+use Rattle.tetra_interleave.specs.lemmas.Placed.{placed_is, same_source, undone}
 use Rattle.tetra_interleave.proofs.ByColumns.{placed_columns}
 use Rattle.tetra_interleave.proofs.matrix.Matrix.bits_out.Goals as goal
 

@@ -1,7 +1,7 @@
 use Rattle.std.proofs.Common.{◌≡◌, ◌*◌, length, pos, ap, ◌∙◌}
 use Rattle.tetra_interleave.specs.Matrix.{matrix_place}
-use Rattle.tetra_interleave.specs.MatrixLemmas.{matrices_are_one_to_one}
-use Rattle.tetra_interleave.specs.PlacedLemmas.{length-taken, taken_is, same_target, undone}
+use Rattle.tetra_interleave.specs.lemmas.Matrices.{matrices_are_one_to_one}
+use Rattle.tetra_interleave.specs.lemmas.Placed.{length-taken, taken_is, same_target, undone}
 use Rattle.tetra_interleave.proofs.matrix.Matrix.soft_back_into.Goals as goal
 
 pub returns-clause-places : goal.returns-clause-places

@@ -1,4 +1,3 @@
-pub mod Places
 pub mod SixteenLanes
 pub mod StepRules
 pub mod Sums

@@ -1,5 +1,5 @@
 -- Messages, parity bit by parity bit.
-use Rattle.std.proofs.Common.{◌≡◌, ℕ, ◌+◌, ◌-◌, ◌≤◌, ◌<◌, ◌⊎◌, inl, inr, Bool, true, false, not, cond, append_assoc, List, [], ◌∷◌, ◌++◌, length, get_or, take, drop, arith, refl, ap, sym, ◌∙◌}
+use Rattle.std.proofs.Common.{◌≡◌, ℕ, ◌+◌, ◌≤◌, ◌<◌, ◌⊎◌, inl, inr, Bool, true, false, not, cond, append_assoc, List, [], ◌∷◌, ◌++◌, length, get_or, take, drop, arith, refl, ap, sym, ◌∙◌}
 use Rattle.std.proofs.Math.Bool.{beq}
 use Rattle.std.proofs.lemmas.List.{length-drop, get_or-drop, ext_get_or, take_all}
 use Rattle.tetra_bits.specs.Digits.{digit, digits}
@@ -39,9 +39,9 @@ module _ (parity : Parity) (message : List Bool) (size number w : ℕ) (ew : w �
   all_agree each =
       let long : length (drop size message) ≡ w = length-drop size message ∙ omega arith in
       let same : drop size message ≡ numbered (digit w number) w =
-          ext_get_or false (drop size message) (numbered (digit w number) w) (long ∙ sym (length-numbered (digit w number) w)) (λ k h.
-          let inside : k < w = omega (arith, long) in
-          get_or-drop size message k false ∙ each k inside ∙ sym (get_or-numbered (digit w number) w k false inside))
+      ext_get_or false (drop size message) (numbered (digit w number) w) (long ∙ sym (length-numbered (digit w number) w)) (λ k h.
+      let inside : k < w = omega (arith, long) in
+      get_or-drop size message k false ∙ each k inside ∙ sym (get_or-numbered (digit w number) w k false inside))
       in
       rw before (same ∙ ap (λ n. numbered (digit n number) n) ew ∙ is)
 

@@ -9,7 +9,7 @@ use Rattle.tetra_bits.specs.Numbered.{numbered, numbered_none, numbered_more}
 use Rattle.tetra_bits.specs.Order.{bit_at}
 use Rattle.tetra_bits.specs.Sums.{add2}
 use Rattle.tetra_bits.specs.lemmas.Digits.{digits-cat}
-use Rattle.tetra_parity.specs.Parity.{block_rest, generator4, generator7, generator16, parity_bits4, seven_bits, parity_bits8, parity16, parity_bits16, sum_of}
+use Rattle.tetra_parity.specs.Parity.{block_rest, generator4, generator7, generator16, parity_bits4, seven_bits, parity_bits8, parity_bits16, sum_of}
 use Rattle.tetra_parity.specs.Register.{held}
 use Rattle.tetra_parity.proofs.Held.{held_rest, held_ones, is_generator4, is_generator7}
 

@@ -1,15 +1,15 @@
 -- One shift of a register, as the code computes it.
 use Prim.Native.Nat.{zero, suc}
-use Rattle.std.proofs.Common.{◌≡◌, ℕ, ◌+◌, ◌-◌, ◌*◌, ◌/◌, ◌%◌, ◌^◌, ◌<◌, ◌≤◌, inl, inr, Bool, true, false, nat_lt, cond, lit<, lit≤, arith, refl, ap, sym, ◌∙◌}
+use Rattle.std.proofs.Common.{◌≡◌, ℕ, ◌*◌, ◌/◌, ◌%◌, ◌^◌, ◌<◌, ◌≤◌, inl, inr, Bool, true, false, nat_lt, cond, lit≤, arith, refl, ap, sym, ◌∙◌}
 use Rattle.std.proofs.Math.Pow.{pow-lt}
 use Rattle.std.proofs.Math.Nat.{div-eq_of_lt, div-eq_of_lt-le, mod-eq_of_lt}
 use mir.Val.{bool_byte}
-use Rattle.std.specs.Int.Bits.{bit_xor, xor_zero_r, xor_zero_l}
+use Rattle.std.specs.Int.Bits.{bit_xor, xor_zero_r}
 use Rattle.std.proofs.lemmas.Bool.{cases_lt, lt-ltb, le-ltb}
 use Rattle.std.proofs.lemmas.Nat.{xor_lt, pow_pos}
 use Rattle.tetra_bits.specs.Polynomials.{reduced, times_x, power_rest}
 use Rattle.tetra_parity.specs.Register.{IsGenerator}
-use Rattle.tetra_parity.proofs.Rests.{reduced-lt, reduced-xor, reduced_below, times_x-lt, power_rest-lt}
+use Rattle.tetra_parity.proofs.Rests.{reduced-lt, reduced-xor, reduced_below}
 
 -- the powers of a degree
 pub degree-lt : (d g : ℕ) → IsGenerator d g → 2 ^ d ≤ 65536

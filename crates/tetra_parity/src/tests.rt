@@ -50,7 +50,11 @@ fn parity_of_few_ones(rt: HostRuntime) {
         (Parity::Four, 30, 1, 0b0011),
     ] {
         let block = block_of(&rt, size, last);
-        assert_eq!(rt; parity_behind(&rt, parity, &block), behind, "behind {size} bits");
+        assert_eq!(rt;
+            parity_behind(&rt, parity, &block),
+            behind,
+            "behind {size} bits"
+        );
     }
 }
 

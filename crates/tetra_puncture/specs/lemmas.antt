@@ -22,3 +22,6 @@ pub mod Front
 pub mod Walk
 pub mod Outputs
 pub mod RowEntries
+pub mod Speech
+pub mod SpeechWhole
+pub mod SpeechHalf

@@ -8,6 +8,7 @@ mod laws;
 mod plan;
 mod rule;
 mod sending;
+mod speech;
 mod spreading;
 mod two_thirds;
 
@@ -20,6 +21,7 @@ pub use laws::{
 pub use plan::Plan;
 pub use rule::Rule;
 pub use sending::keep;
+pub use speech::{SpeechHalf, SpeechWhole};
 pub use spreading::spread;
 pub use two_thirds::TwoThirds;
 

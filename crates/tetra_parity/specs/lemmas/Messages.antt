@@ -1,9 +1,8 @@
 -- Messages, their parity and their marks.
-use Rattle.std.proofs.Common.{◌≡◌, ◌≢◌, ℕ, ◌+◌, ◌-◌, Bool, true, false, List, [], ◌∷◌, ◌++◌, length, take, drop, cond, arith, refl, ap, sym, ◌∙◌}
+use Rattle.std.proofs.Common.{◌≡◌, ◌+◌, Bool, true, false, List, [], ◌∷◌, ◌++◌, length, take, drop, cond, arith, refl, ap, ◌∙◌}
 use Rattle.std.proofs.Math.Seq.{take-append_seam, drop-append_seam}
 use Rattle.std.proofs.lemmas.List.{length-append}
-use Rattle.tetra_bits.specs.declared.reading.Mark.{Mark}
-use Rattle.tetra_bits.specs.declared.reading.Mark.TheVariants.{Good, Bad, Unchecked, NotYet}
+use Rattle.tetra_bits.specs.declared.reading.Mark.TheVariants.{Good, Bad}
 use Rattle.tetra_bits.specs.lemmas.Digits.{length-digits}
 use Rattle.tetra_parity.specs.Marks.{mark_by, mark_of, IsMarked, MarksAreRight, good_mark, BlocksAreGood}
 use Rattle.tetra_parity.specs.Parity.{block_rest, generator4, generator7, parity_bits4, seven_bits, parity_bits8, parity16, parity_bits16, sum_of, width, parity_bits, with_parity, block_size, Holds, same_bits, holds_of, ParityHolds, TestsParity}

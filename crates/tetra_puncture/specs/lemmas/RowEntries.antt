@@ -1,10 +1,9 @@
 -- The lesser of the allowed ways, by the values of the step and the row behind it.
 use Rattle.std.proofs.Common.{◌≡◌, ℕ, ◌+◌, Bool, true, false, List, [], get_or, ℤ, refl, ap}
-use Rattle.tetra_bits.specs.Cost.{cost}
 use Rattle.tetra_bits.specs.Readings.{entry}
 use Rattle.tetra_bits.specs.Sums.{sum_below}
 use Rattle.tetra_bits.specs.lemmas.Signs.{sum_same}
-use Rattle.tetra_mother.specs.Mother.{edge, next_state}
+use Rattle.tetra_mother.specs.Mother.{next_state}
 use Rattle.tetra_puncture.specs.Decoding.{least_branch}
 use Rattle.tetra_puncture.specs.Labels.{IsStep}
 use Rattle.tetra_puncture.specs.Plan.{CodePlan}

@@ -1,4 +1,4 @@
-use Rattle.std.proofs.Common.{◌≡◌, true, false, sym, ◌∙◌}
+use Rattle.std.proofs.Common.{true, false, sym, ◌∙◌}
 use Rattle.tetra_bits.specs.declared.reading.Mark.TheVariants.{Good, Bad, Unchecked}
 use Rattle.tetra_parity.proofs.Messages.{marked_none, marked_by, is_marked}
 use Rattle.tetra_parity.proofs.message.mark.Goals as goal

@@ -1,4 +1,4 @@
-use Rattle.std.proofs.Common.{◌≡◌, ◌++◌, length, arith, sym, ap, ◌∙◌}
+use Rattle.std.proofs.Common.{◌++◌, length, arith, sym, ap, ◌∙◌}
 use Rattle.std.proofs.lemmas.List.{length-append, append-nil}
 use Rattle.tetra_bits.specs.Digits.{digit}
 use Rattle.tetra_bits.specs.Numbered.{numbered, numbered_none, length-numbered}

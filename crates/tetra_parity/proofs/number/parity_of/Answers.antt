@@ -1,6 +1,5 @@
 use Rattle.std.proofs.Common.{take}
 use Rattle.tetra_parity.specs.Parity.{parity_bits}
-use Rattle.tetra_parity.specs.Register.{IsGenerator}
 use Rattle.tetra_parity.proofs.Numbers.{none, four, eight, sixteen}
 use Rattle.tetra_parity.proofs.number.parity_of.Goals as goal
 

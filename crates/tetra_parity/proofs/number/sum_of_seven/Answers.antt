@@ -1,4 +1,4 @@
-use Rattle.std.proofs.Common.{◌≡◌, arith, refl}
+use Rattle.std.proofs.Common.{arith, refl}
 use Rattle.tetra_bits.specs.Digits.{digit}
 use Rattle.tetra_parity.proofs.Numbers.{no_digits, digit_more, seven_digits}
 use Rattle.tetra_parity.proofs.number.sum_of_seven.Goals as goal

@@ -1,7 +1,7 @@
 -- From the steps that were checked to the verdict.
 use Rattle.std.proofs.Common.{◌≡◌, ℕ, ◌<◌, ◌≤◌, Bool, List, ℤ, Some, subst}
-use Rattle.tetra_puncture.proofs.Certificates.{accepted_is_certified}
-use Rattle.tetra_puncture.proofs.Checking.{CheckedTo, checked_all, first_failing}
+use Rattle.tetra_puncture.specs.lemmas.Certificates.{accepted_is_certified}
+use Rattle.tetra_puncture.specs.lemmas.Checking.{CheckedTo, checked_all, first_failing}
 use Rattle.tetra_puncture.specs.Certified.{Fits, IsCertified}
 use Rattle.tetra_puncture.specs.Plan.{CodePlan}
 use Rattle.tetra_puncture.specs.Rules.{IsAccepted, IsFirstFailing}

@@ -6,10 +6,11 @@ use Rattle.std.specs.Io.KnownBytes.{Consumes}
 use Rattle.tetra_settings.specs.declared.types.Settings.{Settings}
 use Rattle.tetra_engine.specs.declared.status.Status.TheVariants.{NotBuilt}
 use Rattle.tetra_engine.specs.declared.refusals.Refusals.{Refusals}
-use Rattle.tetra_session.specs.declared.receiver.Receiver.{Receiver}
+use Rattle.tetra_engine.specs.declared.intake.Intake.{Intake}
+use Rattle.tetra_engine.specs.declared.work.Stop.{Stop}
 use Rattle.tetra_audit.specs.declared.verdict.SlotVerdict.{SlotVerdict}
 use Rattle.tetra_audit.specs.declared.verdict.SlotVerdict.TheVariants.{Agrees, Kind, Field}
-use Rattle.tetra_session.specs.Heard.{ReceiverStands, slot_letter, slot_front, letter_heard, fields_heard}
+use Rattle.tetra_session.specs.Heard.{slot_front, letter_heard, fields_heard}
 use Rattle.tetra_session.specs.declared.front.Front.{Front}
 use Rattle.tetra_session.specs.declared.front.FrontField.{FrontField}
 use Rattle.tetra_settings.specs.declared.slots.Letter.{Letter}
@@ -19,20 +20,16 @@ use Rattle.tetra_engine.specs.Framing.{is_built_slot}
 use Rattle.tetra_engine.specs.Auditing.{Claimed, auditing, slots_of, front_at, refused_by, refused_slots, verdict_at}
 use Rattle.tetra_engine.specs.Refusals.{Counts}
 use Rattle.tetra_engine.specs.Slots.{soft_values}
-use Rattle.tetra_engine.specs.Working.{NoneBegins}
+use Rattle.tetra_engine.specs.Intake.{IntakeStops, HoldsSlot}
+use Rattle.tetra_engine.specs.Working.{NoneBegins, StopGives}
 use Rattle.tetra_engine.proofs.Cuts.{same_front}
 use Rattle.tetra_engine.proofs.Fronts.{unbuilt_front, IsShort}
-use Rattle.tetra_engine.proofs.Framed.{framing_unbuilt, framing_truncated, not_both}
+use Rattle.tetra_engine.proofs.Intakes.{slot_stopped}
+use Rattle.tetra_engine.proofs.Framed.{framing_short, framing_unbuilt, framing_truncated, not_both}
 
 -- the slots so far, and one more
 pub slots_more : (before : List Claimed) (input : Claimed) → slots_of (before ++ input ∷ []) ≡ slots_of before ++ soft_values input.0 ∷ []
 slots_more before input = map-append (λ i. soft_values i.0) before (input ∷ [])
-
--- the letter that a receiver reads is that of the slot behind those that it stands for
-pub letter_same : (settings : Settings) (before : List Claimed) (receiver : Receiver) (soft : List ℤ) → ReceiverStands settings (slots_of before) receiver
-    → slot_letter receiver.settings receiver.turn soft ≡ slot_letter settings (length before) soft
-letter_same settings before receiver soft stands =
-    ap (λ s. slot_letter s receiver.turn soft) stands.same ∙ ap (λ t. slot_letter settings t soft) (stands.turn ∙ length-map before (λ i. soft_values i.0))
 
 -- the slot of an input that begins the bytes
 slot_of_input : (x : Claimed) (slot u rest : List ℕ) → length x.0 ≡ 510 → length slot ≡ 510 → slot ++ u ≡ (x.0 ++ x.1) ++ rest → x.0 ≡ slot
@@ -46,6 +43,20 @@ unbuilt_claimed settings before slot old new size unbuilt came =
     (λ u x rest fits e. not_both settings (length before) slot x.0 (slot_of_input x slot u rest fits.0 size e) unbuilt fits.1)
     (λ u. framing_unbuilt settings (length before) slot u size unbuilt) (omega arith) came
 
+-- fewer bytes than a slot has
+pub short_first : (settings : Settings) (before : List Claimed) → IsShort (auditing settings) before [] 510
+short_first settings before = record {
+  none = λ u few x rest fits e. absurd (omega (arith, ap length e, length-append (x.0 ++ x.1) rest, length-append x.0 x.1, fits.0));
+  stops = λ u few. framing_short settings (length before) u few;
+}
+
+-- what the stops of its slots say of an audit
+pub auditing_stopped : (settings : Settings) (before : List Claimed) (intake : Intake) (old new : Option (List ℕ)) (Stands : Type 0) (stop : Stop) → intake.settings ≡ settings → Stands
+    → IntakeStops intake (length (slots_of before)) old new stop → StopGives (auditing settings) before old new Stands stop
+auditing_stopped settings before intake old new Stands stop same stands stops =
+    slot_stopped (auditing settings) before settings (short_first settings before) (λ slot a b size unbuilt came. unbuilt_claimed settings before slot a b size unbuilt came)
+    intake (length (slots_of before)) old new Stands stop same (length-map before (λ i. soft_values i.0)) stands stops
+
 -- a slot behind which bytes of the record are missing
 pub short_claim : (settings : Settings) (before : List Claimed) (slot : List ℕ) (len : ℕ) → length slot ≡ 510 → is_built_slot settings (length before) slot ≡ true
     → len ≡ claim_length (front_at settings before slot) → IsShort (auditing settings) before slot len
@@ -56,6 +67,22 @@ short_claim settings before slot len size built is = record {
       absurd (omega (arith, ap length e, length-append slot u, length-append (x.0 ++ x.1) rest, length-append x.0 x.1, fits.0));
   stops = λ u few. framing_truncated settings (length before) slot u size built;
 }
+
+-- a slot that was read, what a receiver takes from it, and the length of its record
+pub record SlotAt (settings : Settings) (before : List Claimed) (slot : List ℕ) (front : Front) (len : ℕ) : Type 0 where
+  pub size : length slot ≡ 510
+  pub built : is_built_slot settings (length before) slot ≡ true
+  pub front_is : front ≡ front_at settings before slot
+  pub len_is : len ≡ claim_length (front_at settings before slot)
+
+pub slot_at : (settings : Settings) (before : List Claimed) (intake : Intake) (front : Front) (len : ℕ) → intake.settings ≡ settings → HoldsSlot intake (length (slots_of before))
+    → front ≡ slot_front intake.settings (slots_of before) intake.soft → len ≡ claim_length front → SlotAt settings before intake.bytes front len
+slot_at settings before intake front len same holds heard long =
+    let n : length (slots_of before) ≡ length before = length-map before (λ i. soft_values i.0) in
+    let is : front ≡ front_at settings before intake.bytes = heard ∙ ap (λ s. slot_front s (slots_of before) intake.soft) same ∙ ap (slot_front settings (slots_of before)) holds.values in
+    let here : is_built_slot settings (length before) intake.bytes ≡ is_built_slot intake.settings (length (slots_of before)) intake.bytes =
+    ap (λ s. is_built_slot s (length before) intake.bytes) (sym same) ∙ ap (λ k. is_built_slot intake.settings k intake.bytes) (sym n) in
+    record { size = holds.size; built = here ∙ holds.built; front_is = is; len_is = long ∙ ap claim_length is }
 
 -- one slot more that is refused or not
 pub refused_more : (settings : Settings) (before inputs : List Claimed) (input : Claimed)

@@ -1,7 +1,8 @@
 -- Block records at the front of the input.
-use Rattle.std.proofs.Common.{◌≡◌, ℕ, ◌<◌, List, length, ap, sym, ◌∙◌, inl, inr, subst, true, false, None, Some, refl, arith, length-append}
+use Rattle.std.proofs.Common.{◌≡◌, ℕ, ◌<◌, List, ◌++◌, length, ap, sym, ◌∙◌, inl, inr, subst, true, false, refl, arith, length-append}
 use Rattle.std.specs.declared.option.Option.{Option}
 use Rattle.std.specs.Io.KnownBytes.{Consumes}
+use Rattle.tetra_io.specs.lemmas.Told.{AreTold-some, AreTold-behind}
 use Rattle.tetra_settings.specs.declared.types.Settings.{Settings}
 use Rattle.tetra_settings.specs.declared.blocks.SlotBlocks.{SlotBlocks}
 use Rattle.tetra_settings.specs.Slots.{byte_of}
@@ -28,32 +29,32 @@ no_built_record settings before bytes none x rest fits e = none x rest fits.0 e
 -- bytes that begin with no record
 pub bad_record : (settings : Settings) (before : List SlotBlocks) (n : ℕ) (fault : RecordFault) (old new : Option (List ℕ)) → n ≡ length before
     → BeginsNone settings n fault old new → NoneBegins (encoding settings) before old (Input (length before) fault)
-bad_record settings before n fault None new is begins = tt
-bad_record settings before n fault (Some bytes) new is begins =
-    let none = subst (λ k. NoRecordBegins settings k bytes) is begins.1 in
-    (begins.0, no_built_record settings before bytes none, (refl, none, ap (λ k. why settings k bytes) (sym is) ∙ begins.2))
+bad_record settings before n fault old new is bad =
+    let none = subst (λ k. NoRecordBegins settings k bad.bytes) is bad.none in
+    (bad.bytes, bad.told, (bad.some, no_built_record settings before bad.bytes none, (refl, none, ap (λ k. why settings k bad.bytes) (sym is) ∙ bad.reason)))
 
 -- part of a record
 pub part_record : (settings : Settings) (before : List SlotBlocks) (n : ℕ) (old new : Option (List ℕ)) → n ≡ length before
     → TakesRecordPart settings n old new → TakesPart (encoding settings) before old new
-part_record settings before n None new is part = tt
-part_record settings before n (Some bytes) None is part = tt
-part_record settings before n (Some bytes) (Some rest) is (part, split, inl nothing) = (part, split, inl nothing)
-part_record settings before n (Some bytes) (Some rest) is (part, split, inr (none, truncated)) =
+part_record settings before n old new is (part, went, inl nothing) = (part, went, inl nothing)
+part_record settings before n old new is (part, went, inr (none, truncated)) =
     let here = subst (λ k. NoRecordBegins settings k part) is none in
-    (part, split, inr (no_built_record settings before part here, (refl, here, ap (λ k. why settings k part) (sym is) ∙ truncated)))
+    (part, went, inr (no_built_record settings before part here, (refl, here, ap (λ k. why settings k part) (sym is) ∙ truncated)))
 
 -- a record whose letter is not built
 pub unbuilt_record : (settings : Settings) (before : List SlotBlocks) (n : ℕ) (blocks : SlotBlocks) (old new : Option (List ℕ)) → n ≡ length before → Fits settings n blocks
     → is_built_letter (byte_of (letter_of blocks.body)) ≡ false → Consumes old new (spelling blocks) → 0 < length (spelling blocks) → NoneBegins (encoding settings) before old NotBuilt
-unbuilt_record settings before n blocks None new is fits unbuilt came some = tt
-unbuilt_record settings before n blocks (Some bytes) None is fits unbuilt came some = absurd came
-unbuilt_record settings before n blocks (Some bytes) (Some rest) is fits unbuilt came some =
-    let here = subst (λ k. Fits settings k blocks) is fits in (
-      omega (arith, ap length came, length-append (spelling blocks) rest, some),
-      λ x more xfits e.
-          let same : x ≡ blocks = unambiguous settings (length before) x blocks more rest xfits.0 here (sym e ∙ came) in
-          let two : false ≡ true = sym (ap (λ b. is_built_letter (byte_of (letter_of b.body))) same ∙ unbuilt) ∙ xfits.1 in
-          cc two,
-      (blocks, rest, here, came),
+unbuilt_record settings before n blocks old new is fits unbuilt came some =
+    let here = subst (λ k. Fits settings k blocks) is fits in
+    let (rest, told) = AreTold-some new in (
+      spelling blocks ++ rest,
+      AreTold-behind old new (spelling blocks) rest came told,
+      (
+        omega (arith, length-append (spelling blocks) rest, some),
+        λ x more xfits e.
+            let same : x ≡ blocks = unambiguous settings (length before) x blocks more rest xfits.0 here (sym e) in
+            let two : false ≡ true = sym (ap (λ b. is_built_letter (byte_of (letter_of b.body))) same ∙ unbuilt) ∙ xfits.1 in
+            cc two,
+        (blocks, rest, here, refl),
+      ),
     )

@@ -6,7 +6,7 @@ use Rattle.tetra_settings.specs.Blocks.{Fits}
 use Rattle.tetra_engine.specs.declared.status.End.{End}
 use Rattle.tetra_engine.specs.declared.status.Status.{Status}
 use Rattle.tetra_engine.specs.declared.status.Status.TheVariants.{Done, Refused, Words, TooLong, Input, Read, Write, NotBuilt}
-use Rattle.tetra_engine.specs.Shapes.{Shape, IsUnambiguous, IsDecided}
+use Rattle.tetra_engine.specs.Shapes.{Shape, IsUnambiguous, IsDecided, outputs}
 use Rattle.tetra_engine.specs.Outcomes.{Closes, OneEnd}
 use Rattle.tetra_records.specs.Records.{why as record_why, NoneBegins}
 use Rattle.tetra_records.specs.Spelling.{spelling}
@@ -29,18 +29,19 @@ same_end end other s n =
     ap (λ status. made status end.slots) s ∙ ap (made other.status) n
 
 pub one_end : {X : Type 0} (shape : Shape X) → IsUnambiguous shape → IsDecided shape → OneEnd shape
-one_end {X} shape one decided max bytes end other a b =
+one_end {X} shape one decided max bytes end other written others a b =
     let cut = one_cut shape one max bytes a.xs b.xs a.rest b.rest a.cut b.cut in
     let there = subst (λ xs. Closes shape max xs b.rest other.status) (sym cut.0) b.closes in
     let here = subst (λ rest. Closes shape max a.xs rest end.status) cut.1 a.closes in
-    same_end end other (one_status shape decided max a.xs b.rest end.status other.status here there) (a.slots ∙ ap (λ xs. length xs) cut.0 ∙ sym b.slots)
+    let same = same_end end other (one_status shape decided max a.xs b.rest end.status other.status here there) (a.slots ∙ ap (λ xs. length xs) cut.0 ∙ sym b.slots) in
+    (same, sym a.output ∙ ap (outputs shape []) cut.0 ∙ b.output)
 
 -- bytes begin with the record of blocks that fit
-BeginsWithBlocks : Settings → ℕ → List ℕ → Type 0
+pub BeginsWithBlocks : Settings → ℕ → List ℕ → Type 0
 BeginsWithBlocks settings n bytes = (blocks : SlotBlocks) × (rest : List ℕ) × Fits settings n blocks × (bytes ≡ spelling blocks ++ rest)
 
 -- the two ways in which encoding stops
-two_ways : (settings : Settings) (n : ℕ) (bytes : List ℕ) (status : Status) → EncodingStops settings n bytes status
+pub two_ways : (settings : Settings) (n : ℕ) (bytes : List ℕ) (status : Status) → EncodingStops settings n bytes status
     → (NoneBegins settings n bytes × (status ≡ Input n (record_why settings n bytes))) ⊎ (BeginsWithBlocks settings n bytes × (status ≡ NotBuilt))
 unfolding BeginsWithBlocks
 two_ways settings n bytes Done stops = absurd stops

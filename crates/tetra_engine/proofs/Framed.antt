@@ -1,5 +1,5 @@
 -- Slots of 510 bytes at the front of the input.
-use Rattle.std.proofs.Common.{◌≡◌, ℕ, ◌≤◌, List, [], ◌∷◌, ◌++◌, length, take, map, refl, ap, sym, ◌∙◌, arith, length-append, true, false, IsTrue, nat_lt, ℤ}
+use Rattle.std.proofs.Common.{◌≡◌, ℕ, ◌<◌, ◌≤◌, List, [], ◌∷◌, ◌++◌, length, take, map, refl, ap, sym, ◌∙◌, arith, length-append, true, false, IsTrue, nat_lt, subst, Ok, Err, Result}
 use Rattle.std.proofs.Math.Seq.{take-append_seam}
 use Rattle.std.proofs.lemmas.List.{map-append, length-map}
 use Rattle.std.proofs.lemmas.Grind.{common_steps}
@@ -8,14 +8,18 @@ use Rattle.std.specs.Io.KnownBytes.{Consumes}
 use Rattle.tetra_settings.specs.declared.types.Settings.{Settings}
 use Rattle.tetra_engine.specs.declared.status.Status.TheVariants.{Input, NotBuilt}
 use Rattle.tetra_records.specs.declared.faults.RecordFault.TheVariants.{Truncated}
-use Rattle.tetra_session.specs.declared.receiver.Receiver.{Receiver}
-use Rattle.tetra_session.specs.Heard.{ReceiverStands, slot_letter}
+use Rattle.tetra_engine.specs.declared.decoder.Decoder.{Decoder}
+use Rattle.tetra_engine.specs.declared.intake.Intake.{Intake}
+use Rattle.tetra_engine.specs.declared.work.Stop.{Stop}
+use Rattle.tetra_engine.specs.Decoder.{DecoderStands, DecoderHolds}
 use Rattle.tetra_engine.specs.Framing.{is_built_slot, framing_stop}
+use Rattle.tetra_engine.specs.Intake.{IntakeStands, HoldsSlot, IntakeStops, IntakeGives}
 use Rattle.tetra_engine.specs.Decoding.{decoding}
 use Rattle.tetra_engine.specs.Slots.{soft_values}
-use Rattle.tetra_engine.specs.Working.{NoneBegins}
+use Rattle.tetra_engine.specs.Working.{NoneBegins, StopGives, ReadGives}
 use Rattle.tetra_engine.proofs.Cuts.{same_front}
-use Rattle.tetra_engine.proofs.Fronts.{unbuilt_front}
+use Rattle.tetra_engine.proofs.Fronts.{unbuilt_front, IsShort}
+use Rattle.tetra_engine.proofs.Intakes.{slot_stopped}
 
 -- the slots so far, and one more
 pub heard_more : (before : List (List ℕ)) (slot : List ℕ) → map soft_values (before ++ slot ∷ []) ≡ map soft_values before ++ soft_values slot ∷ []
@@ -46,6 +50,20 @@ not_both settings n slot other same unbuilt built =
     let two : false ≡ true = sym is ∙ built in
     cc two
 
+below : (a b : ℕ) → a < b → nat_lt a b ≡ true
+below a b e = grind (arith, common_steps)
+
+-- fewer bytes than a slot has are cut off
+pub framing_short : (settings : Settings) (n : ℕ) (u : List ℕ) → length u < 510 → Input n Truncated ≡ framing_stop settings n u
+framing_short settings n u few = rw (below (length u) 510 few) refl
+
+-- and begin no slot, for decoding
+pub short_slot : (settings : Settings) (before : List (List ℕ)) → IsShort (decoding settings) before [] 510
+short_slot settings before = record {
+  none = λ u few x rest fits e. absurd (omega (arith, ap length e, length-append x rest, fits.0));
+  stops = λ u few. framing_short settings (length before) u few;
+}
+
 -- a slot that is not built, for decoding
 pub unbuilt_slot : (settings : Settings) (before : List (List ℕ)) (slot : List ℕ) (old new : Option (List ℕ)) → length slot ≡ 510 → is_built_slot settings (length before) slot ≡ false
     → Consumes old new slot → NoneBegins (decoding settings) before old NotBuilt
@@ -54,8 +72,24 @@ unbuilt_slot settings before slot old new size unbuilt came =
     (λ u x rest fits e. not_both settings (length before) slot x (same_front 510 x slot rest u fits.0 size (sym e)) unbuilt fits.1)
     (λ u. framing_unbuilt settings (length before) slot u size unbuilt) (omega arith) came
 
--- the letter that a receiver reads is that of the slot behind those that it stands for
-pub letter_same : (settings : Settings) (before : List (List ℕ)) (receiver : Receiver) (soft : List ℤ) → ReceiverStands settings (map soft_values before) receiver
-    → slot_letter receiver.settings receiver.turn soft ≡ slot_letter settings (length before) soft
-letter_same settings before receiver soft stands =
-    ap (λ s. slot_letter s receiver.turn soft) stands.same ∙ ap (λ t. slot_letter settings t soft) (stands.turn ∙ length-map before soft_values)
+-- what its stops say of decoding
+pub decoding_stopped : (settings : Settings) (before : List (List ℕ)) (intake : Intake) (old new : Option (List ℕ)) (Stands : Type 0) (stop : Stop) → intake.settings ≡ settings → Stands
+    → IntakeStops intake (length (map soft_values before)) old new stop → StopGives (decoding settings) before old new Stands stop
+decoding_stopped settings before intake old new Stands stop same stands stops =
+    slot_stopped (decoding settings) before settings (short_slot settings before) (λ slot a b size unbuilt came. unbuilt_slot settings before slot a b size unbuilt came)
+    intake (length (map soft_values before)) old new Stands stop same (length-map before soft_values) stands stops
+
+-- and its slots
+pub decoding_read : (settings : Settings) (d : Decoder) (before : List (List ℕ)) (old new : Option (List ℕ)) (result : Result (Unit {0}) Stop)
+    → d.intake.settings ≡ settings → IntakeStands d.intake (map soft_values before) → length before < 16777216
+    → IntakeGives d.intake (length (map soft_values before)) old new result
+    → ReadGives (decoding settings) before old new (DecoderHolds d before) (DecoderStands d before) result
+decoding_read settings d before old new (Ok u) same stands few gives =
+    let n : length (map soft_values before) ≡ length before = length-map before soft_values in
+    let holds : HoldsSlot d.intake (length before) = subst (HoldsSlot d.intake) n gives.0 in (
+      d.intake.bytes,
+      record { stands = record { intake = stands }; few = few; holds = holds; bytes = refl },
+      (holds.size, subst (λ s. IsTrue (is_built_slot s (length before) d.intake.bytes)) same holds.built),
+      gives.1,
+    )
+decoding_read settings d before old new (Err stop) same stands few gives = decoding_stopped settings before d.intake old new (DecoderStands d before) stop same (record { intake = stands }) gives

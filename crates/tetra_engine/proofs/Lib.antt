@@ -8,3 +8,6 @@ pub mod Ends
 pub mod Encoded
 pub mod OwnAudits
 pub mod OwnReadings
+pub mod Said
+pub mod MeetsEnd
+pub mod Intakes

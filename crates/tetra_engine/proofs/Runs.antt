@@ -1,21 +1,22 @@
 -- How what was read and written goes on and ends, over any shape.
-use Rattle.std.proofs.Common.{◌≡◌, ◌≢◌, ◌⊎◌, ℕ, ◌+◌, ◌<◌, ◌≤◌, List, [], ◌∷◌, ◌++◌, length, take, refl, ap, sym, ◌∙◌, inl, inr, arith, length-append, append_assoc, append-nil, None, Some, subst, IfSome, ◌==◌, true, false, Result, Ok, Err, OnOk, OnErr, MatchBool}
+use Rattle.std.proofs.Common.{◌≡◌, ◌≢◌, ◌⊎◌, ℕ, ◌+◌, ◌<◌, ◌≤◌, List, [], ◌∷◌, ◌++◌, length, take, refl, ap, sym, ◌∙◌, inl, inr, arith, length-append, append_assoc, append-nil, None, Some, subst, ◌==◌, true, false, Result, Ok, Err, OnOk, OnErr, MatchBool}
 use Rattle.std.specs.Result.{is_err}
 use Rattle.std.proofs.lemmas.Grind.{common_steps}
 use Rattle.std.specs.declared.option.Option.{Option}
 use Rattle.std.specs.Io.KnownBytes.{Consumes, Appends, IsAtEnd}
 use Rattle.std.proofs.KnownBytes.{Consumes-trans, Appends-trans, Consumes-nil, Appends-nil}
 use Rattle.tetra_io.specs.Streams.{KeepsOrHides}
-use Rattle.tetra_io.specs.Filling.{TakesFewer, AddsFront}
+use Rattle.tetra_io.specs.Filling.{TakesFewer, AddsFront, Went}
+use Rattle.tetra_io.specs.lemmas.Told.{Went-behind, AreTold-some, AreTold-end, AreTold-behind, AreTold-went}
 use Rattle.tetra_engine.specs.declared.status.End.{End}
 use Rattle.tetra_engine.specs.declared.status.Status.{Status}
 use Rattle.tetra_engine.specs.declared.status.Status.TheVariants.{Done, Refused, Words, TooLong, Input, Read, Write, NotBuilt}
 use Rattle.tetra_records.specs.declared.faults.RecordFault.TheVariants.{Truncated}
 use Rattle.tetra_engine.specs.Shapes.{Shape, AreInputs, spellings, outputs, NoInput}
-use Rattle.tetra_engine.specs.Outcomes.{EndsBy, TookBefore, IsEnd, Outcome, IsPart, ReadFront, WriteFront, Came, Grows, IsFrontOfNext, ToldBoth}
+use Rattle.tetra_engine.specs.Outcomes.{EndsBy, TookBefore, IsEnd, Outcome, IsPart, ReadFront, WriteFront, Came, Grows, IsFrontOfNext, Over}
 use Rattle.tetra_engine.specs.declared.work.Stop.{Stop}
 use Rattle.tetra_engine.specs.declared.work.Stop.TheVariants.{End as EndStop, Bad, NotBuilt as NotBuiltStop, More, Fault}
-use Rattle.tetra_engine.specs.Working.{Ran, TakesPart, NoneBegins, StopGives, PastGives, end_by}
+use Rattle.tetra_engine.specs.Working.{Ran, NoneBegins, StopGives, PastGives, end_by}
 
 -- one input more
 pub spellings-push : {X : Type 0} (shape : Shape X) (xs : List X) (x : X) → spellings shape (xs ++ x ∷ []) ≡ spellings shape xs ++ shape.spelling x
@@ -53,35 +54,36 @@ no_input_in_part : {X : Type 0} (shape : Shape X) (xs : List X) (p : List ℕ) �
 no_input_in_part shape xs p some (inl none) x rest fits e = absurd (omega (arith, ap length e, ap length none, length-append (shape.spelling x) rest, some xs x fits))
 no_input_in_part shape xs p some (inr why) x rest fits e = why.0 x rest fits e
 
--- a read that fails behind the last slot took nothing
-ended_part : {X : Type 0} (shape : Shape X) (max : ℕ) (xs : List X) (m p r : List ℕ) → (length xs < max) ⊎ TakesFewer (Some m) (Some r) 1 → m ≡ p ++ r
+-- a read that fails before the last slot took part of an input
+ended_part : {X : Type 0} (shape : Shape X) (max : ℕ) (xs : List X) (p : List ℕ) → length xs < max
     → IsPart shape xs p → (p ≡ []) ⊎ ((length xs < max) × shape.Stops xs p (Input (length xs) Truncated))
-ended_part shape max xs m p r few split (inl none) = inl none
-ended_part shape max xs m p r (inl below) split (inr why) = inr (below, why.1)
-ended_part shape max xs m [] r (inr fewer) split (inr why) = inl refl
-ended_part shape max xs m (a ∷ p) r (inr fewer) split (inr why) =
-    let (bs, is, short) = fewer in absurd (omega (arith, ap length is, ap length split, length-append bs r, length-append (a ∷ p) r))
+ended_part shape max xs p below (inl none) = inl none
+ended_part shape max xs p below (inr why) = inr (below, why.1)
 
 -- what a failed read leaves
-read_front : {X : Type 0} (shape : Shape X) (max n : ℕ) (xs : List X) (r0 r1 r2 t0 t1 : Option (List ℕ))
-    → ((before : List X) (x : X) → shape.Fits before x → 0 < length (shape.spelling x)) → Ran shape max n xs r0 r1 t0 t1 → (length xs < max) ⊎ TakesFewer r1 r2 1 → TakesPart shape xs r1 r2
+read_front : {X : Type 0} (shape : Shape X) (max n : ℕ) (xs : List X) (r0 r1 r2 t0 t1 : Option (List ℕ)) (p : List ℕ)
+    → ((before : List X) (x : X) → shape.Fits before x → 0 < length (shape.spelling x)) → Ran shape max n xs r0 r1 t0 t1 → Went r1 r2 p → IsPart shape xs p
+    → (p ≡ []) ⊎ ((length xs < max) × shape.Stops xs p (Input (length xs) Truncated))
     → Came r0 r2 (ReadFront shape max (Appends t0 t1) (record { status = Read; slots = n }))
-read_front shape max n xs None r1 r2 t0 t1 some ran few part = tt
-read_front shape max n xs (Some b) r1 None t0 t1 some ran few part = tt
-read_front shape max n xs (Some b) None (Some r) t0 t1 some ran few part = absurd ran.came
-read_front shape max n xs (Some b) (Some m) (Some r) t0 t1 some ran few part =
-    let (p, split, why) = part in (
-      spellings shape xs ++ p,
-      ran.came ∙ ap (λ l. spellings shape xs ++ l) split ∙ sym (append_assoc (spellings shape xs) p r),
-      record {
-        xs = xs;
-        part = p;
-        cut = record { whole = refl; each = ran.each; few = ran.few; longest = λ _. no_input_in_part shape xs p some why };
-        ended = ended_part shape max xs m p r few split why;
-        slots = ran.slots_is;
-        output = ran.wrote;
-      },
-    )
+read_front shape max n xs r0 r1 r2 t0 t1 p some ran went why ended = (
+  spellings shape xs ++ p,
+  Went-behind r0 r1 r2 (spellings shape xs) p ran.came went,
+  record {
+    xs = xs;
+    part = p;
+    cut = record { whole = refl; each = ran.each; few = ran.few; longest = λ _. no_input_in_part shape xs p some why };
+    ended = ended;
+    slots = ran.slots_is;
+    output = ran.wrote;
+  },
+)
+
+-- one that fails behind the last slot took nothing
+past_fault : {X : Type 0} (shape : Shape X) (max n : ℕ) (xs : List X) (r0 r1 r2 t0 t1 : Option (List ℕ))
+    → ((before : List X) (x : X) → shape.Fits before x → 0 < length (shape.spelling x)) → Ran shape max n xs r0 r1 t0 t1 → TakesFewer r1 r2 1
+    → Came r0 r2 (ReadFront shape max (Appends t0 t1) (record { status = Read; slots = n }))
+past_fault shape max n xs r0 r1 r2 t0 t1 some ran ([], few, went) = read_front shape max n xs r0 r1 r2 t0 t1 [] some ran went (inl refl) (inl refl)
+past_fault shape max n xs r0 r1 r2 t0 t1 some ran (a ∷ p, few, went) = absurd (omega arith)
 
 -- the front of an output that a failed write took
 front_written : {X : Type 0} (shape : Shape X) (max : ℕ) (xs : List X) (x : X) (r : List ℕ) (t0 t1 t2 : Option (List ℕ)) → length xs < max → shape.Fits xs x
@@ -100,23 +102,24 @@ front_written shape max xs x r (Some a) (Some b) (Some c) below fits wrote adds 
 -- what a failed write leaves
 pub write_front : {X : Type 0} (shape : Shape X) (max n : ℕ) (xs : List X) (x : X) (r0 r1 r2 t0 t1 t2 : Option (List ℕ))
     → Ran shape max n xs r0 r1 t0 t1 → length xs < max → shape.Fits xs x → Consumes r1 r2 (shape.spelling x) → AddsFront t1 t2 (shape.out xs x)
-    → ToldBoth r0 r2 (λ bytes. WriteFront shape max bytes (Grows t0 t2) (record { status = Write; slots = n }))
-write_front shape max n xs x None r1 r2 t0 t1 t2 ran below fits more adds = tt
-write_front shape max n xs x (Some b) r1 None t0 t1 t2 ran below fits more adds = tt
-write_front shape max n xs x (Some b) None (Some r) t0 t1 t2 ran below fits more adds = absurd ran.came
-write_front shape max n xs x (Some b) (Some m) (Some r) t0 t1 t2 ran below fits more adds =
-    let (front, next, grows) = front_written shape max xs x r t0 t1 t2 below fits ran.wrote adds in
-    record {
-      xs = xs;
-      rest = shape.spelling x ++ r;
-      front = front;
-      whole = ran.came ∙ ap (λ l. spellings shape xs ++ l) more;
-      each = ran.each;
-      few = ran.few;
-      next = next;
-      slots = ran.slots_is;
-      output = grows;
-    }
+    → Over r0 (λ bytes. WriteFront shape max bytes (Grows t0 t2) (record { status = Write; slots = n }))
+write_front shape max n xs x r0 r1 r2 t0 t1 t2 ran below fits more adds =
+    let (r, told) = AreTold-some r2 in
+    let (front, next, grows) = front_written shape max xs x r t0 t1 t2 below fits ran.wrote adds in (
+      spellings shape xs ++ (shape.spelling x ++ r),
+      AreTold-behind r0 r1 (spellings shape xs) (shape.spelling x ++ r) ran.came (AreTold-behind r1 r2 (shape.spelling x) r more told),
+      record {
+        xs = xs;
+        rest = shape.spelling x ++ r;
+        front = front;
+        whole = refl;
+        each = ran.each;
+        few = ran.few;
+        next = next;
+        slots = ran.slots_is;
+        output = grows;
+      },
+    )
 
 same_number : (a b : ℕ) → a ≡ b → (a == b) ≡ true
 same_number a b e = grind (arith, common_steps)
@@ -124,22 +127,23 @@ same_number a b e = grind (arith, common_steps)
 -- a byte behind the last slot
 too_long : {X : Type 0} (shape : Shape X) (max n : ℕ) (xs : List X) (r0 r1 r2 t0 t1 : Option (List ℕ)) (buf : List ℕ)
     → Ran shape max n xs r0 r1 t0 t1 → max ≤ n → Consumes r1 r2 buf → length buf ≡ 1
-    → IfSome r0 (λ bytes. Outcome shape max bytes (Appends t0 t1) (record { status = TooLong; slots = n }))
-too_long shape max n xs None r1 r2 t0 t1 buf ran all more one = tt
-too_long shape max n xs (Some b) None r2 t0 t1 buf ran all more one = absurd ran.came
-too_long shape max n xs (Some b) (Some m) None t0 t1 buf ran all more one = absurd more
-too_long shape max n xs (Some b) (Some m) (Some r) t0 t1 [] ran all more one = absurd (omega arith)
-too_long shape max n xs (Some b) (Some m) (Some r) t0 t1 (a ∷ c ∷ buf) ran all more one = absurd (omega arith)
-too_long shape max n xs (Some b) (Some m) (Some r) t0 t1 (a ∷ []) ran all more one =
+    → Over r0 (λ bytes. Outcome shape max bytes (Appends t0 t1) (record { status = TooLong; slots = n }))
+too_long shape max n xs r0 r1 r2 t0 t1 [] ran all more one = absurd (omega arith)
+too_long shape max n xs r0 r1 r2 t0 t1 (a ∷ c ∷ buf) ran all more one = absurd (omega arith)
+too_long shape max n xs r0 r1 r2 t0 t1 (a ∷ []) ran all more one =
     let full : length xs ≡ max = omega (arith, ran.few, ran.slots_is) in
-    record {
-      xs = xs;
-      rest = m;
-      cut = record { whole = ran.came; each = ran.each; few = ran.few; longest = λ below. absurd (omega arith) };
-      closes = rw more (rw (same_number (length xs) max full) refl);
-      slots = ran.slots_is;
-      output = ran.wrote;
-    }
+    let (r, told) = AreTold-some r2 in (
+      spellings shape xs ++ (a ∷ r),
+      AreTold-behind r0 r1 (spellings shape xs) (a ∷ r) ran.came (AreTold-behind r1 r2 (a ∷ []) r more told),
+      record {
+        xs = xs;
+        rest = a ∷ r;
+        cut = record { whole = refl; each = ran.each; few = ran.few; longest = λ below. absurd (omega arith) };
+        closes = rw (same_number (length xs) max full) refl;
+        slots = ran.slots_is;
+        output = ran.wrote;
+      },
+    )
 
 other_number : (a b : ℕ) → a < b → (a == b) ≡ false
 other_number a b e = grind (arith, common_steps)
@@ -147,20 +151,21 @@ other_number a b e = grind (arith, common_steps)
 -- bytes that begin no input
 none_begins : {X : Type 0} (shape : Shape X) (max n : ℕ) (xs : List X) (status : Status) (r0 r1 t0 t1 : Option (List ℕ))
     → Ran shape max n xs r0 r1 t0 t1 → n < max → NoneBegins shape xs r1 status
-    → IfSome r0 (λ bytes. Outcome shape max bytes (Appends t0 t1) (record { status = status; slots = n }))
-none_begins shape max n xs status None r1 t0 t1 ran below none = tt
-none_begins shape max n xs status (Some b) None t0 t1 ran below none = absurd ran.came
-none_begins shape max n xs status (Some b) (Some []) t0 t1 ran below none = absurd (omega arith)
-none_begins shape max n xs status (Some b) (Some (a ∷ m)) t0 t1 ran below none =
-    let fewer : length xs < max = omega (arith, ran.slots_is) in
-    record {
-      xs = xs;
-      rest = a ∷ m;
-      cut = record { whole = ran.came; each = ran.each; few = ran.few; longest = λ _. none.1 };
-      closes = subst (λ t. MatchBool t (status ≡ TooLong) (shape.Stops xs (a ∷ m) status)) (sym (other_number (length xs) max fewer)) none.2;
-      slots = ran.slots_is;
-      output = ran.wrote;
-    }
+    → Over r0 (λ bytes. Outcome shape max bytes (Appends t0 t1) (record { status = status; slots = n }))
+none_begins shape max n xs status r0 r1 t0 t1 ran below ([], told, (some, none, stops)) = absurd (omega arith)
+none_begins shape max n xs status r0 r1 t0 t1 ran below (a ∷ m, told, (some, none, stops)) =
+    let fewer : length xs < max = omega (arith, ran.slots_is) in (
+      spellings shape xs ++ (a ∷ m),
+      AreTold-behind r0 r1 (spellings shape xs) (a ∷ m) ran.came told,
+      record {
+        xs = xs;
+        rest = a ∷ m;
+        cut = record { whole = refl; each = ran.each; few = ran.few; longest = λ _. none };
+        closes = subst (λ t. MatchBool t (status ≡ TooLong) (shape.Stops xs (a ∷ m) status)) (sym (other_number (length xs) max fewer)) stops;
+        slots = ran.slots_is;
+        output = ran.wrote;
+      },
+    )
 
 -- what an answer of put_all says of the output
 pub all_written : {T E : Type 0} (r : Result T E) (t1 t2 : Option (List ℕ)) (bytes out : List ℕ) → OnOk r (Appends t1 t2 bytes) → is_err r ≡ false → bytes ≡ out → Appends t1 t2 out
@@ -171,13 +176,6 @@ pub some_written : {T E : Type 0} (r : Result T E) (t1 t2 : Option (List ℕ)) (
 some_written (Ok u) t1 t2 bytes out h err e = absurd (cc err)
 some_written (Err u) t1 t2 bytes out h err e = subst (AddsFront t1 t2) e h
 
--- a read of one byte that fails took nothing
-one_byte : {X : Type 0} (shape : Shape X) (xs : List X) (r1 r2 : Option (List ℕ)) → TakesFewer r1 r2 1 → TakesPart shape xs r1 r2
-one_byte shape xs None r2 fewer = tt
-one_byte shape xs (Some m) None fewer = tt
-one_byte shape xs (Some m) (Some r) ([], is, short) = ([], is, inl refl)
-one_byte shape xs (Some m) (Some r) (a ∷ bs, is, short) = absurd (omega arith)
-
 -- what was taken before the flush and after it
 pub grows_on : (t0 t1 t2 : Option (List ℕ)) (bytes : List ℕ) → Appends t0 t1 bytes → KeepsOrHides t1 t2 → Grows t0 t2 (bytes ++ [])
 grows_on None t1 t2 bytes added kept = tt
@@ -186,69 +184,75 @@ grows_on (Some a) None (Some c) bytes added kept = absurd added
 grows_on (Some a) (Some b) (Some c) bytes added kept = kept ∙ added ∙ ap (λ l. a ++ l) (sym (append-nil bytes))
 
 -- a flush that fails behind an end without a fault
-flush_outcome : {X : Type 0} (shape : Shape X) (max : ℕ) (r0 r1 t0 t1 t2 : Option (List ℕ)) (end : End)
-    → IfSome r0 (λ bytes. Outcome shape max bytes (Appends t0 t1) end) → KeepsOrHides t1 t2
-    → ToldBoth r0 r1 (λ bytes. WriteFront shape max bytes (Grows t0 t2) (record { status = Write; slots = end.slots }))
-flush_outcome shape max None r1 t0 t1 t2 end out kept = tt
-flush_outcome shape max (Some b) None t0 t1 t2 end out kept = tt
-flush_outcome shape max (Some b) (Some r) t0 t1 t2 end out kept = record {
-  xs = out.xs;
-  rest = out.rest;
-  front = [];
-  whole = out.cut.whole;
-  each = out.cut.each;
-  few = out.cut.few;
-  next = inl refl;
-  slots = out.slots;
-  output = grows_on t0 t1 t2 _ out.output kept;
-}
+flush_outcome : {X : Type 0} (shape : Shape X) (max : ℕ) (r0 t0 t1 t2 : Option (List ℕ)) (end : End)
+    → Over r0 (λ bytes. Outcome shape max bytes (Appends t0 t1) end) → KeepsOrHides t1 t2
+    → Over r0 (λ bytes. WriteFront shape max bytes (Grows t0 t2) (record { status = Write; slots = end.slots }))
+flush_outcome shape max r0 t0 t1 t2 end (bytes, told, out) kept = (
+  bytes,
+  told,
+  record {
+    xs = out.xs;
+    rest = out.rest;
+    front = [];
+    whole = out.cut.whole;
+    each = out.cut.each;
+    few = out.cut.few;
+    next = inl refl;
+    slots = out.slots;
+    output = grows_on t0 t1 t2 _ out.output kept;
+  },
+)
 
 -- and behind a failed read
 flush_read : {X : Type 0} (shape : Shape X) (max : ℕ) (r0 r1 t0 t1 t2 : Option (List ℕ)) (end : End)
     → Came r0 r1 (ReadFront shape max (Appends t0 t1) end) → KeepsOrHides t1 t2
-    → ToldBoth r0 r1 (λ bytes. WriteFront shape max bytes (Grows t0 t2) (record { status = Write; slots = end.slots }))
-flush_read shape max None r1 t0 t1 t2 end out kept = tt
-flush_read shape max (Some b) None t0 t1 t2 end out kept = tt
-flush_read shape max (Some b) (Some r) t0 t1 t2 end (came, split, out) kept = record {
-  xs = out.xs;
-  rest = out.part ++ r;
-  front = [];
-  whole = split ∙ ap (λ l. l ++ r) out.cut.whole ∙ append_assoc (spellings shape out.xs) out.part r;
-  each = out.cut.each;
-  few = out.cut.few;
-  next = inl refl;
-  slots = out.slots;
-  output = grows_on t0 t1 t2 _ out.output kept;
-}
+    → Over r0 (λ bytes. WriteFront shape max bytes (Grows t0 t2) (record { status = Write; slots = end.slots }))
+flush_read shape max r0 r1 t0 t1 t2 end (came, went, out) kept =
+    let (r, told) = AreTold-went r0 r1 came went in (
+      came ++ r,
+      told,
+      record {
+        xs = out.xs;
+        rest = out.part ++ r;
+        front = [];
+        whole = ap (λ l. l ++ r) out.cut.whole ∙ append_assoc (spellings shape out.xs) out.part r;
+        each = out.cut.each;
+        few = out.cut.few;
+        next = inl refl;
+        slots = out.slots;
+        output = grows_on t0 t1 t2 _ out.output kept;
+      },
+    )
 
 -- a flush that fails
 pub flush_front : {X : Type 0} (status : Status) (shape : Shape X) (max : ℕ) (r0 r1 t0 t1 t2 : Option (List ℕ)) (end : End)
     → EndsBy status shape max r0 r1 (TookBefore status t0 t1) end → status ≢ Write → KeepsOrHides t1 t2
-    → ToldBoth r0 r1 (λ bytes. WriteFront shape max bytes (Grows t0 t2) (record { status = Write; slots = end.slots }))
-flush_front Done shape max r0 r1 t0 t1 t2 end ends other kept = flush_outcome shape max r0 r1 t0 t1 t2 end ends kept
-flush_front (Refused s c) shape max r0 r1 t0 t1 t2 end ends other kept = flush_outcome shape max r0 r1 t0 t1 t2 end ends kept
-flush_front (Words i w) shape max r0 r1 t0 t1 t2 end ends other kept = flush_outcome shape max r0 r1 t0 t1 t2 end ends kept
-flush_front (Input i w) shape max r0 r1 t0 t1 t2 end ends other kept = flush_outcome shape max r0 r1 t0 t1 t2 end ends kept
+    → Over r0 (λ bytes. WriteFront shape max bytes (Grows t0 t2) (record { status = Write; slots = end.slots }))
+flush_front Done shape max r0 r1 t0 t1 t2 end ends other kept = flush_outcome shape max r0 t0 t1 t2 end ends kept
+flush_front (Refused s c) shape max r0 r1 t0 t1 t2 end ends other kept = flush_outcome shape max r0 t0 t1 t2 end ends kept
+flush_front (Words i w) shape max r0 r1 t0 t1 t2 end ends other kept = flush_outcome shape max r0 t0 t1 t2 end ends kept
+flush_front (Input i w) shape max r0 r1 t0 t1 t2 end ends other kept = flush_outcome shape max r0 t0 t1 t2 end ends kept
 flush_front Read shape max r0 r1 t0 t1 t2 end ends other kept = flush_read shape max r0 r1 t0 t1 t2 end ends kept
 flush_front Write shape max r0 r1 t0 t1 t2 end ends other kept = absurd (other refl)
-flush_front TooLong shape max r0 r1 t0 t1 t2 end ends other kept = flush_outcome shape max r0 r1 t0 t1 t2 end ends kept
-flush_front NotBuilt shape max r0 r1 t0 t1 t2 end ends other kept = flush_outcome shape max r0 r1 t0 t1 t2 end ends kept
+flush_front TooLong shape max r0 r1 t0 t1 t2 end ends other kept = flush_outcome shape max r0 t0 t1 t2 end ends kept
+flush_front NotBuilt shape max r0 r1 t0 t1 t2 end ends other kept = flush_outcome shape max r0 t0 t1 t2 end ends kept
 
 -- nothing is left
 done_outcome : {X : Type 0} (shape : Shape X) (max n : ℕ) (xs : List X) (status : Status) (r0 r1 t0 t1 : Option (List ℕ))
     → ((before : List X) (x : X) → shape.Fits before x → 0 < length (shape.spelling x)) → Ran shape max n xs r0 r1 t0 t1 → IsAtEnd r1 → status ≡ shape.done xs
-    → IfSome r0 (λ bytes. Outcome shape max bytes (Appends t0 t1) (record { status = status; slots = n }))
-done_outcome shape max n xs status None r1 t0 t1 some ran none is = tt
-done_outcome shape max n xs status (Some b) None t0 t1 some ran none is = absurd ran.came
-done_outcome shape max n xs status (Some b) (Some (a ∷ m)) t0 t1 some ran none is = absurd (cc none)
-done_outcome shape max n xs status (Some b) (Some []) t0 t1 some ran none is = record {
-  xs = xs;
-  rest = [];
-  cut = record { whole = ran.came; each = ran.each; few = ran.few; longest = λ _ x rest fits e. absurd (omega (arith, ap length e, length-append (shape.spelling x) rest, some xs x fits)) };
-  closes = is;
-  slots = ran.slots_is;
-  output = ran.wrote;
-}
+    → Over r0 (λ bytes. Outcome shape max bytes (Appends t0 t1) (record { status = status; slots = n }))
+done_outcome shape max n xs status r0 r1 t0 t1 some ran none is = (
+  spellings shape xs ++ [],
+  AreTold-behind r0 r1 (spellings shape xs) [] ran.came (AreTold-end r1 none),
+  record {
+    xs = xs;
+    rest = [];
+    cut = record { whole = refl; each = ran.each; few = ran.few; longest = λ _ x rest fits e. absurd (omega (arith, ap length e, length-append (shape.spelling x) rest, some xs x fits)) };
+    closes = is;
+    slots = ran.slots_is;
+    output = ran.wrote;
+  },
+)
 
 done_front : {X : Type 0} (shape : Shape X) (max n : ℕ) (xs : List X) (status : Status) (r0 r1 r2 t0 t1 : Option (List ℕ))
     → ((before : List X) (x : X) → shape.Fits before x → 0 < length (shape.spelling x)) → Ran shape max n xs r0 r1 t0 t1 → IsAtEnd r1 → status ≡ shape.done xs → IsEnd status
@@ -272,7 +276,8 @@ stopped shape max n xs (Bad why) last r0 r1 r2 t0 t1 Stands some ran below gives
     none_begins shape max n xs (Input n why) r0 r1 t0 t1 ran below (subst (λ k. NoneBegins shape xs r1 (Input k why)) (sym ran.slots_is) gives)
 stopped shape max n xs NotBuiltStop last r0 r1 r2 t0 t1 Stands some ran below gives is quiet = none_begins shape max n xs NotBuilt r0 r1 t0 t1 ran below gives
 stopped shape max n xs More last r0 r1 r2 t0 t1 Stands some ran below gives is quiet = absurd gives
-stopped shape max n xs Fault last r0 r1 r2 t0 t1 Stands some ran below gives is quiet = read_front shape max n xs r0 r1 r2 t0 t1 some ran (inl (omega (arith, ran.slots_is))) gives
+stopped shape max n xs Fault last r0 r1 r2 t0 t1 Stands some ran below (p, went, why) is quiet =
+    read_front shape max n xs r0 r1 r2 t0 t1 p some ran went why (ended_part shape max xs p (omega (arith, ran.slots_is)) why)
 
 -- the end behind the last slot
 pub passed : {X : Type 0} (shape : Shape X) (max n : ℕ) (xs : List X) (stop : Stop) (last : Status) (r0 r1 r2 t0 t1 : Option (List ℕ))
@@ -283,4 +288,4 @@ passed shape max n xs EndStop last r0 r1 r2 t0 t1 some ran all gives is quiet = 
 passed shape max n xs (Bad why) last r0 r1 r2 t0 t1 some ran all gives is quiet = absurd gives
 passed shape max n xs NotBuiltStop last r0 r1 r2 t0 t1 some ran all gives is quiet = absurd gives
 passed shape max n xs More last r0 r1 r2 t0 t1 some ran all gives is quiet = too_long shape max n xs r0 r1 r2 t0 t1 gives.0 ran all gives.2 gives.1
-passed shape max n xs Fault last r0 r1 r2 t0 t1 some ran all gives is quiet = read_front shape max n xs r0 r1 r2 t0 t1 some ran (inr gives) (one_byte shape xs r1 r2 gives)
+passed shape max n xs Fault last r0 r1 r2 t0 t1 some ran all gives is quiet = past_fault shape max n xs r0 r1 r2 t0 t1 some ran gives

@@ -6,7 +6,7 @@ use Rattle.tetra_engine.specs.declared.status.Status.TheVariants.{Done, Refused}
 use Rattle.tetra_session.specs.declared.front.Front.{Front}
 use Rattle.tetra_session.specs.Heard.{slot_front}
 use Rattle.tetra_audit.specs.declared.verdict.SlotVerdict.{SlotVerdict}
-use Rattle.tetra_audit.specs.declared.verdict.SlotVerdict.TheVariants.{Agrees}
+use Rattle.tetra_audit.specs.declared.verdict.SlotVerdict.TheVariants.{Agrees, Kind, Field}
 use Rattle.tetra_audit.specs.Fields.{claim_length}
 use Rattle.tetra_audit.specs.Verdicts.{slot_verdict}
 use Rattle.tetra_engine.specs.Framing.{is_built_slot, framing_stop}
@@ -33,7 +33,8 @@ verdict_at settings before input = slot_verdict settings.rows (front_at settings
 -- the number of a slot, where it is refused
 abbrev pub refused_by : ℕ → SlotVerdict → List ℕ
 refused_by slot Agrees = []
-refused_by slot verdict = slot ∷ []
+refused_by slot Kind = slot ∷ []
+refused_by slot (Field index why) = slot ∷ []
 
 -- the numbers of the slots that are refused
 abbrev pub refused_slots : Settings → List Claimed → List Claimed → List ℕ

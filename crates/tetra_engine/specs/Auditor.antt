@@ -1,28 +1,25 @@
 -- What an auditor stands for.
 use Rattle.std.specs.Prelude.{◌≡◌, ◌<◌, ◌≤◌, List, [], ◌∷◌, ◌++◌, length, take, All}
-use Rattle.tetra_settings.specs.Validity.{IsValid}
 use Rattle.tetra_engine.specs.declared.auditor.Auditor.{Auditor}
 use Rattle.tetra_session.specs.Fronts.{IsFront}
-use Rattle.tetra_session.specs.Heard.{ReceiverStands}
 use Rattle.tetra_audit.specs.Fields.{IsAudited, claim_length}
 use Rattle.tetra_engine.specs.Auditing.{Claimed, slots_of, front_at, refused_slots}
+use Rattle.tetra_engine.specs.Intake.{IntakeStands}
 use Rattle.tetra_engine.specs.Refusals.{Counts}
 use Rattle.tetra_engine.specs.Slots.{soft_values}
 
 -- it has read and judged these slots
 pub record AuditorStands (a : Auditor) (before : List Claimed) : Type 0 where
-  pub valid : IsValid a.settings
-  pub receiver : ReceiverStands a.settings (slots_of before) a.receiver
-  pub refusals : Counts a.refusals (refused_slots a.settings [] before)
+  pub intake : IntakeStands a.intake (slots_of before)
+  pub refusals : Counts a.refusals (refused_slots a.intake.settings [] before)
 
 -- and it holds the next one, whose front the receiver has taken
 pub record AuditorHolds (a : Auditor) (before : List Claimed) (input : Claimed) : Type 0 where
-  pub valid : IsValid a.settings
-  pub receiver : ReceiverStands a.settings (slots_of before ++ soft_values input.0 ∷ []) a.receiver
-  pub refusals : Counts a.refusals (refused_slots a.settings [] before)
+  pub intake : IntakeStands a.intake (slots_of before ++ soft_values input.0 ∷ [])
+  pub refusals : Counts a.refusals (refused_slots a.intake.settings [] before)
   pub counted : a.refusals.count < 16777216
   pub slot : a.slot ≡ length before
-  pub front : a.front ≡ front_at a.settings before input.0
+  pub front : a.front ≡ front_at a.intake.settings before input.0
   pub formed : IsFront a.front
   pub audited : All IsAudited a.front.fields.items
   pub size : a.len ≡ claim_length a.front

@@ -8,7 +8,7 @@ use Rattle.tetra_settings.specs.Blocks.{Fits, letter_of}
 use Rattle.tetra_session.specs.Built.{IsBuiltLetter}
 use Rattle.tetra_session.specs.Sent.{slot_written}
 use Rattle.tetra_engine.specs.declared.status.Status.{Status}
-use Rattle.tetra_engine.specs.declared.status.Status.TheVariants.{Done, Input, NotBuilt}
+use Rattle.tetra_engine.specs.declared.status.Status.TheVariants.{Done, Refused, Words, Input, Read, Write, TooLong, NotBuilt}
 use Rattle.tetra_records.specs.Records.{why as record_why, NoneBegins}
 use Rattle.tetra_records.specs.Spelling.{spelling}
 use Rattle.tetra_engine.specs.Shapes.{Shape}
@@ -21,7 +21,12 @@ EncodingStops settings n bytes (Input slot why) =
     (slot ≡ n) × NoneBegins settings n bytes × (record_why settings n bytes ≡ why)
 EncodingStops settings n bytes NotBuilt =
     (blocks : SlotBlocks) × (rest : List ℕ) × Fits settings n blocks × (bytes ≡ spelling blocks ++ rest)
-EncodingStops settings n bytes status = ⊥
+EncodingStops settings n bytes Done = ⊥
+EncodingStops settings n bytes (Refused slot count) = ⊥
+EncodingStops settings n bytes (Words index why) = ⊥
+EncodingStops settings n bytes Read = ⊥
+EncodingStops settings n bytes Write = ⊥
+EncodingStops settings n bytes TooLong = ⊥
 
 -- a record is not empty
 pub spelling-some : (blocks : SlotBlocks) → 0 < length (spelling blocks)

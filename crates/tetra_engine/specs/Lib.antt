@@ -8,6 +8,7 @@ pub mod Built
 pub mod Encoding
 pub mod Encoder
 pub mod Framing
+pub mod Intake
 pub mod Decoding
 pub mod Decoder
 pub mod Auditing

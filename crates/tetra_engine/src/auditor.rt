@@ -4,8 +4,8 @@ ghost use Rattle.tetra_settings.specs.Validity.{IsValid};
 ghost use Rattle.tetra_session.specs.Built.{IsBuilt};
 ghost use Rattle.tetra_engine.specs.Auditing.{auditing, Claimed};
 
+use crate::intake::Intake;
 use crate::refusals::Refusals;
-use crate::slots::read_values;
 use crate::status::Status;
 use crate::verdicts::line_of_slot;
 use crate::work::{Stop, Work};
@@ -14,19 +14,16 @@ use tetra_audit::{audit_slot_with, claim_len};
 use tetra_bits::Potentials;
 use tetra_io::{Filled, Sink, SinkFault, Source, fill, put_all};
 use tetra_records::RecordFault;
-use tetra_session::{Front, Receiver, is_built_letter};
+use tetra_session::Front;
 use tetra_settings::Settings;
 
-/// An audit: the slot that was read last with the record that is claimed for it, what a receiver takes
-/// from the slot, and potentials into which certificates are read.
+/// An audit: the slots that are read, which of them were refused, and of the last one its number, what a receiver takes
+/// from it, the record that is claimed for it, and potentials into which certificates are read.
 #[derive(Drop)]
 pub struct Auditor {
-    settings: Settings,
-    receiver: Receiver,
+    intake: Intake,
     refusals: Refusals,
     slot: u32,
-    bytes: [u8; 510],
-    soft: [i16; 510],
     front: Front,
     claim: [u8; 18_743],
     len: usize,
@@ -41,15 +38,12 @@ impl Auditor {
         requires valid { IsValid settings.now }
         requires built { IsBuilt settings.now }
         ensures stands { AuditorStands result [] }
-        ensures settings { result.settings ≡ settings.now }
+        ensures settings { result.intake.settings ≡ settings.now }
     {
         Auditor {
-            settings: *settings,
-            receiver: Receiver::new(settings),
+            intake: Intake::new(settings),
             refusals: Refusals::new(),
             slot: 0,
-            bytes: [0; 510],
-            soft: [0; 510],
             front: Front {
                 letter: 0,
                 fields: ArrayVec::new(),
@@ -69,7 +63,7 @@ impl Work for Auditor {
 
     ghost shape = { auditing };
 
-    ghost settings = { λ a. a.settings };
+    ghost settings = { λ a. a.intake.settings };
 
     ghost stands = { AuditorStands };
 
@@ -78,18 +72,12 @@ impl Work for Auditor {
     ghost some = { λ settings before x fits. Prim.omega (arith, length-append x.0 x.1) };
 
     fn read<S: Source>(&mut self, src: &mut S, slot: u32) -> Result<(), Stop> {
-        match fill(src, &mut self.bytes) {
-            Filled::Whole => {}
-            Filled::Ended(0) => return Err(Stop::End),
-            Filled::Ended(_) => return Err(Stop::Bad(RecordFault::Truncated)),
-            Filled::Fault => return Err(Stop::Fault),
+        if let Err(stop) = self.intake.next(src) {
+            return Err(stop);
         }
-        read_values(&self.bytes, &mut self.soft);
-        if !is_built_letter(self.receiver.letter(&self.soft)) {
-            return Err(Stop::NotBuilt);
-        }
+        let intake = &mut self.intake;
+        intake.receiver.front_into(&intake.soft, &mut self.front);
         self.slot = slot;
-        self.receiver.front_into(&self.soft, &mut self.front);
         self.len = claim_len(&self.front);
         match fill(src, &mut self.claim[..self.len]) {
             Filled::Whole => Ok(()),
@@ -101,7 +89,7 @@ impl Work for Auditor {
     fn write<K: Sink>(&mut self, sink: &mut K) -> Result<(), SinkFault> {
         let verdict = audit_slot_with(
             &mut self.potentials,
-            &self.settings.rows,
+            &self.intake.settings.rows,
             &self.front,
             &self.claim[..self.len],
         );

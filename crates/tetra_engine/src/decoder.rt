@@ -6,23 +6,18 @@ ghost use Rattle.tetra_engine.specs.Decoding.{decoding, framed};
 ghost use Rattle.tetra_records.specs.Readings.{reading_spelling, IsSmall};
 ghost use Rattle.tetra_settings.specs.Readings.{IsWellFormed};
 
-use crate::slots::read_values;
+use crate::intake::Intake;
 use crate::status::Status;
 use crate::work::{Stop, Work};
 use arrayvec::ArrayVec;
-use tetra_io::{Filled, Sink, SinkFault, Source, fill, put_all};
-use tetra_records::{RecordFault, add_reading};
-use tetra_session::{Receiver, is_built_letter};
+use tetra_io::{Sink, SinkFault, Source, put_all};
+use tetra_records::add_reading;
 use tetra_settings::{Form, Settings, SlotReading};
 
-/// Decoding: the slot that was read last, the receiver that it goes to, and the reading, which is used again for each
-/// slot.
+/// Decoding: the slots that are read, and the reading and the output of the last one, which are used again for each.
 #[derive(Drop)]
 pub struct Decoder {
-    settings: Settings,
-    receiver: Receiver,
-    bytes: [u8; 510],
-    soft: [i16; 510],
+    intake: Intake,
     reading: SlotReading,
     output: ArrayVec<u8, 19_253>,
 }
@@ -35,13 +30,10 @@ impl Decoder {
         requires valid { IsValid settings.now }
         requires built { IsBuilt settings.now }
         ensures stands { DecoderStands result [] }
-        ensures settings { result.settings ≡ settings.now }
+        ensures settings { result.intake.settings ≡ settings.now }
     {
         Decoder {
-            settings: *settings,
-            receiver: Receiver::new(settings),
-            bytes: [0; 510],
-            soft: [0; 510],
+            intake: Intake::new(settings),
             reading: SlotReading {
                 letter: 0,
                 fields: ArrayVec::new(),
@@ -59,7 +51,7 @@ impl Work for Decoder {
 
     ghost shape = { decoding };
 
-    ghost settings = { λ d. d.settings };
+    ghost settings = { λ d. d.intake.settings };
 
     ghost stands = { DecoderStands };
 
@@ -68,25 +60,16 @@ impl Work for Decoder {
     ghost some = { λ settings before x fits. Prim.omega arith };
 
     fn read<S: Source>(&mut self, src: &mut S, slot: u32) -> Result<(), Stop> {
-        match fill(src, &mut self.bytes) {
-            Filled::Whole => {}
-            Filled::Ended(0) => return Err(Stop::End),
-            Filled::Ended(_) => return Err(Stop::Bad(RecordFault::Truncated)),
-            Filled::Fault => return Err(Stop::Fault),
-        }
-        read_values(&self.bytes, &mut self.soft);
-        if !is_built_letter(self.receiver.letter(&self.soft)) {
-            return Err(Stop::NotBuilt);
-        }
-        Ok(())
+        self.intake.next(src)
     }
 
     fn write<K: Sink>(&mut self, sink: &mut K) -> Result<(), SinkFault> {
-        self.receiver.slot_into(&self.soft, &mut self.reading);
+        let intake = &mut self.intake;
+        intake.receiver.slot_into(&intake.soft, &mut self.reading);
         put_reading(
-            &self.bytes,
+            &intake.bytes,
             &self.reading,
-            self.settings.form,
+            intake.settings.form,
             &mut self.output,
         );
         put_all(sink, &self.output)

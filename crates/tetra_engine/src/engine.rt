@@ -1,13 +1,12 @@
 // A whole run.
 ghost use Rattle.std.specs.Prelude.{◌≡◌, ◌≢◌, ◌≤◌, IsTrue};
-ghost use Rattle.std.specs.Io.KnownBytes.{IsAtEnd};
 ghost use Rattle.tetra_io.specs.Streams.{Rose};
 ghost use Rattle.tetra_settings.specs.Validity.{IsValid};
 ghost use Rattle.tetra_settings.specs.Words.{texts, meaning};
 ghost use Rattle.tetra_session.specs.Built.{IsBuilt};
 ghost use Rattle.tetra_engine.specs.Built.{is_built_command};
-ghost use Rattle.tetra_engine.specs.Outcomes.{EndsBy, Grows, IsEnd};
-ghost use Rattle.tetra_engine.specs.Running.{Starts, CommandEnds, Ends, Settles};
+ghost use Rattle.tetra_engine.specs.Outcomes.{EndsBy, Grows};
+ghost use Rattle.tetra_engine.specs.Running.{Starts, IfReady, CommandEnds, CommandLeaves, Says};
 
 use crate::auditor::Auditor;
 use crate::decoder::Decoder;
@@ -22,7 +21,10 @@ use tetra_settings::{Command, Settings, read_words};
 fn is_built_command(command: Command) -> bool
     ensures { result ≡ is_built_command command }
 {
-    matches!(command, Command::Encode | Command::Decode | Command::Audit)
+    match command {
+        Command::Encode | Command::Decode | Command::Audit => true,
+        Command::Gen | Command::Trial => false,
+    }
 }
 
 /// The run of a command that is built.
@@ -37,7 +39,7 @@ fn run_command<S: Source, K: Sink>(
     requires built { IsBuilt settings.now }
     ensures ends { CommandEnds command settings.now (S.rest src.old) (S.rest src.new)
         (K.taken sink.old) (K.taken sink.new) result }
-    ensures left { IsEnd result.status → IsAtEnd (S.rest src.new) }
+    ensures leaves { CommandLeaves command result.status (S.rest src.new) (S.ends src.old) (S.ends src.new) }
     ensures settled { result.status ≢ Status.Write → IsTrue (K.settled sink.new) }
     ensures read { result.status ≡ Status.Read → Rose (S.faults src.old) (S.faults src.new) }
     ensures write { result.status ≡ Status.Write → Rose (K.faults sink.old) (K.faults sink.new) }
@@ -59,13 +61,19 @@ fn run_command<S: Source, K: Sink>(
 pub fn run<S: Source, K: Sink>(words: &[String], src: &mut S, sink: &mut K) -> End
     // Faulty words give Words, and words that are not built give NotBuilt. Then source and sink are as they were.
     ensures starts { Starts (meaning (texts words.now)) (src.new ≡ src.old) (sink.new ≡ sink.old) result }
-    // Each other end is the one that the told bytes define, with its output, or what stands after a fault.
-    ensures ends { Ends (meaning (texts words.now)) (S.rest src.old) (S.rest src.new)
-        (K.taken sink.old) (K.taken sink.new) result }
-    // Done and Refused leave nothing to read.
-    ensures left { IsEnd result.status → IsAtEnd (S.rest src.new) }
+    // Each other end is the one that the bytes define, with its output, or what stands after a fault. The bytes are those
+    // that the source tells, and some where it tells none.
+    ensures ends { IfReady (meaning (texts words.now)) (λ command settings.
+        CommandEnds command settings (S.rest src.old) (S.rest src.new) (K.taken sink.old) (K.taken sink.new) result) }
+    // Whatever the source tells, the words have the fault that Words names, and the slots are within what they allow.
+    ensures says { Says (meaning (texts words.now)) result }
+    // The end of the input is met once, at Done, Refused and an input that was cut off, and at no other end; nothing is
+    // read behind it, and Done and Refused leave nothing.
+    ensures leaves { IfReady (meaning (texts words.now)) (λ command settings.
+        CommandLeaves command result.status (S.rest src.new) (S.ends src.old) (S.ends src.new)) }
     // On every end but those of the words and of a failed write or flush the sink is settled.
-    ensures settled { Settles (meaning (texts words.now)) (K.settled sink.new) result.status }
+    ensures settled { IfReady (meaning (texts words.now)) (λ command settings.
+        result.status ≢ Status.Write → IsTrue (K.settled sink.new)) }
     // Read and Write come only where a fault was counted in this run, or the count stands at its last value.
     ensures read { result.status ≡ Status.Read → Rose (S.faults src.old) (S.faults src.new) }
     ensures write { result.status ≡ Status.Write → Rose (K.faults sink.old) (K.faults sink.new) }

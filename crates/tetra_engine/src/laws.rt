@@ -17,7 +17,7 @@ pub fn one_cut()
     ensures audit { (settings : Settings) → OneCut (auditing settings) }
 {}
 
-/// A run over a list of bytes that meets no fault has one end, however the source cuts the bytes.
+/// Runs over one list of bytes that meet no fault end alike and write the same, however their sources cut the bytes.
 pub fn one_end()
     ensures encode { (settings : Settings) → OneEnd (encoding settings) }
     ensures decode { (settings : Settings) → OneEnd (decoding settings) }

@@ -9,6 +9,7 @@ mod auditor;
 mod decoder;
 mod encoder;
 mod engine;
+mod intake;
 mod laws;
 mod lines;
 mod refusals;

@@ -5,8 +5,8 @@ ghost use Rattle.tetra_io.specs.Streams.{Rose, HasCause};
 ghost use Rattle.tetra_io.specs.Filling.{AddsFront};
 ghost use Rattle.tetra_settings.specs.declared.types.Settings.{Settings};
 ghost use Rattle.tetra_engine.specs.Shapes.{Shape};
-ghost use Rattle.tetra_engine.specs.Outcomes.{EndsBy, TookBefore, IsEnd, Grows};
-ghost use Rattle.tetra_engine.specs.Working.{ReadGives, ReadRose, StopRose, PastGives, end_by};
+ghost use Rattle.tetra_engine.specs.Outcomes.{EndsBy, TookBefore, IsEnd, EndsMet, Grows};
+ghost use Rattle.tetra_engine.specs.Working.{ReadGives, ReadRose, StopRose, PastGives, ends_by_input, ends_by_stop, end_by};
 
 use crate::status::{End, Status};
 use tetra_io::{Filled, Sink, SinkFault, Source, fill};
@@ -54,7 +54,8 @@ pub trait Work {
             (holds self.new xs) (stands self.new xs) result }
         ensures settings { settings self.new ≡ settings self.old }
         ensures later { S.faults src.old ≤ S.faults src.new }
-        ensures cause { ReadRose (S.faults src.old) (S.faults src.new) result };
+        ensures cause { ReadRose (S.faults src.old) (S.faults src.new) result }
+        ensures ended { S.ends src.new ≡ ends_by_input result (S.ends src.old) };
 
     /// Writes the output of the input that it holds.
     fn write<K: Sink>(&mut self, sink: &mut K) -> Result<(), SinkFault>
@@ -84,6 +85,7 @@ pub fn drive<W: Work, S: Source, K: Sink>(work: &mut W, max: u32, src: &mut S, s
     ensures ends { EndsBy result.status (W.shape (W.settings work.old)) max (S.rest src.old) (S.rest src.new)
         (TookBefore result.status (K.taken sink.old) (K.taken sink.new)) result }
     ensures left { IsEnd result.status → IsAtEnd (S.rest src.new) }
+    ensures met { EndsMet result.status (S.ends src.old) (S.ends src.new) }
     ensures source_later { S.faults src.old ≤ S.faults src.new }
     ensures sink_later { K.faults sink.old ≤ K.faults sink.new }
     ensures read { result.status ≡ Status.Read → Rose (S.faults src.old) (S.faults src.new) }
@@ -110,6 +112,7 @@ fn past_last<S: Source>(src: &mut S) -> Stop
     ensures gives { PastGives (S.rest src.old) (S.rest src.new) result }
     ensures later { S.faults src.old ≤ S.faults src.new }
     ensures cause { StopRose (S.faults src.old) (S.faults src.new) result }
+    ensures ended { S.ends src.new ≡ ends_by_stop result (S.ends src.old) }
 {
     match fill(src, &mut [0]) {
         Filled::Whole => Stop::More,
@@ -140,6 +143,7 @@ pub fn finish<W: Work, S: Source, K: Sink>(work: &mut W, max: u32, src: &mut S, 
     ensures ends { EndsBy result.status (W.shape (W.settings work.old)) max (S.rest src.old) (S.rest src.new)
         (Grows (K.taken sink.old) (K.taken sink.new)) result }
     ensures left { IsEnd result.status → IsAtEnd (S.rest src.new) }
+    ensures met { EndsMet result.status (S.ends src.old) (S.ends src.new) }
     ensures settled { result.status ≢ Status.Write → IsTrue (K.settled sink.new) }
     ensures read { result.status ≡ Status.Read → Rose (S.faults src.old) (S.faults src.new) }
     ensures write { result.status ≡ Status.Write → Rose (K.faults sink.old) (K.faults sink.new) }

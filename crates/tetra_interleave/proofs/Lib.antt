@@ -1,2 +1,2 @@
-pub mod Modular
-pub mod Places
+pub mod BySteps
+pub mod ByColumns

@@ -1,7 +1,8 @@
 // Block interleavers.
 ghost use Rattle.std.specs.Prelude.{◌≡◌, ◌<◌, ◌≤◌, ◌+◌, ◌-◌, ◌*◌, ◌%◌, ℕ, Bool, List, ℤ, pos, false, length, slice_index_or};
 ghost use Rattle.tetra_bits.specs.Numbered.{numbered};
-ghost use Rattle.tetra_interleave.specs.Block.{IsBlock, IsInterleaved, interleaved, deinterleaved};
+ghost use Rattle.tetra_interleave.specs.Block.{IsBlock, block_place};
+ghost use Rattle.tetra_interleave.specs.Placed.{IsPlaced, placed, taken};
 ghost use Rattle.tetra_interleave.specs.Steps.{step_entry};
 
 use tetra_bits::{Bits, Soft};
@@ -16,34 +17,34 @@ impl<const K: usize, const A: usize, const INV: usize> Block<K, A, INV> {
     pub fn bits_out(x: &Bits) -> Bits
         requires fits { IsBlock K A INV }
         requires size { length x.now ≡ K }
-        ensures placed { IsInterleaved false K A x.now result }
-        ensures value { result ≡ interleaved false K INV x.now }
-        ensures back { deinterleaved false K A result ≡ x.now }
-        ensures only { (z : List Bool) → IsInterleaved false K A z result → z ≡ x.now }
+        ensures places { IsPlaced false K (block_place K A) x.now result }
+        ensures value { result ≡ placed false K (block_place K A) x.now }
+        ensures back { taken false K (block_place K A) result ≡ x.now }
+        ensures only { (z : List Bool) → IsPlaced false K (block_place K A) z result → z ≡ x.now }
     {
-        walked::<K>(x, K - 1, INV)
+        bits_by_steps::<K>(x, K - 1, INV)
     }
 
     /// The list that has these bits at its places.
     pub fn bits_back(x: &Bits) -> Bits
         requires fits { IsBlock K A INV }
         requires size { length x.now ≡ K }
-        ensures placed { IsInterleaved false K A result x.now }
-        ensures value { result ≡ deinterleaved false K A x.now }
-        ensures out { interleaved false K INV result ≡ x.now }
-        ensures only { (z : List Bool) → IsInterleaved false K A result z → z ≡ x.now }
+        ensures places { IsPlaced false K (block_place K A) result x.now }
+        ensures value { result ≡ taken false K (block_place K A) x.now }
+        ensures out { placed false K (block_place K A) result ≡ x.now }
+        ensures only { (z : List Bool) → IsPlaced false K (block_place K A) result z → z ≡ x.now }
     {
-        walked::<K>(x, A, A)
+        bits_by_steps::<K>(x, A, A)
     }
 
     /// The list that has these soft values at its places.
     pub fn soft_back(x: &Soft) -> Soft
         requires fits { IsBlock K A INV }
         requires size { length x.now ≡ K }
-        ensures placed { IsInterleaved (pos 0) K A result x.now }
-        ensures value { result ≡ deinterleaved (pos 0) K A x.now }
-        ensures out { interleaved (pos 0) K INV result ≡ x.now }
-        ensures only { (z : List ℤ) → IsInterleaved (pos 0) K A result z → z ≡ x.now }
+        ensures places { IsPlaced (pos 0) K (block_place K A) result x.now }
+        ensures value { result ≡ taken (pos 0) K (block_place K A) x.now }
+        ensures out { placed (pos 0) K (block_place K A) result ≡ x.now }
+        ensures only { (z : List ℤ) → IsPlaced (pos 0) K (block_place K A) result z → z ≡ x.now }
     {
         let mut all = Soft::new();
         Self::soft_back_into(x, &mut all);
@@ -54,17 +55,17 @@ impl<const K: usize, const A: usize, const INV: usize> Block<K, A, INV> {
     pub fn soft_back_into(x: &Soft, all: &mut Soft)
         requires fits { IsBlock K A INV }
         requires size { length x.now ≡ K }
-        ensures placed { IsInterleaved (pos 0) K A all.new x.now }
-        ensures value { all.new ≡ deinterleaved (pos 0) K A x.now }
-        ensures out { interleaved (pos 0) K INV all.new ≡ x.now }
-        ensures only { (z : List ℤ) → IsInterleaved (pos 0) K A all.new z → z ≡ x.now }
+        ensures places { IsPlaced (pos 0) K (block_place K A) all.new x.now }
+        ensures value { all.new ≡ taken (pos 0) K (block_place K A) x.now }
+        ensures out { placed (pos 0) K (block_place K A) all.new ≡ x.now }
+        ensures only { (z : List ℤ) → IsPlaced (pos 0) K (block_place K A) all.new z → z ≡ x.now }
     {
-        walk_into::<K>(x, A, A, all);
+        values_by_steps::<K>(x, A, A, all);
     }
 }
 
 /// The bits from place `from` on, each `by` places further modulo `K`. Places count from 0 here.
-fn walked<const K: usize>(x: &Bits, from: usize, by: usize) -> Bits
+fn bits_by_steps<const K: usize>(x: &Bits, from: usize, by: usize) -> Bits
     requires few { K ≤ 432 }
     requires size { length x.now ≡ K }
     requires place { from < K }
@@ -81,7 +82,7 @@ fn walked<const K: usize>(x: &Bits, from: usize, by: usize) -> Bits
 }
 
 /// The same of soft values, into a list that is there.
-fn walk_into<const K: usize>(x: &Soft, from: usize, by: usize, all: &mut Soft)
+fn values_by_steps<const K: usize>(x: &Soft, from: usize, by: usize, all: &mut Soft)
     requires few { K ≤ 432 }
     requires size { length x.now ≡ K }
     requires place { from < K }

@@ -1,5 +1,5 @@
 -- What a source has left, what a sink took, and how their counts of faults move.
-use Rattle.std.specs.Prelude.{◌≡◌, ℕ, ◌+◌, ◌-◌, ◌^◌, ◌<◌, ◌≤◌, min, List, length, take, ⊤, None, Some, Bool, true, false, Ok, Err, Result, OnErr, MatchResult, if◌then◌else◌, nat_eq}
+use Rattle.std.specs.Prelude.{◌≡◌, ℕ, ◌+◌, ◌-◌, ◌^◌, ◌<◌, ◌≤◌, min, List, length, take, ⊤, None, Some, Bool, true, false, Ok, Err, Result, OnErr, MatchResult, if◌then◌else◌, nat_eq, nat_lt, ◌&&◌}
 use Rattle.std.specs.Io.KnownBytes.{Consumes, Appends, IsAtEnd}
 use Rattle.std.specs.declared.option.Option.{Option}
 
@@ -20,6 +20,15 @@ pub record HasCause {T E : Type 0} (before now : ℕ) (result : Result T E) : Ty
 abbrev pub count_behind : {T E : Type 0} → Result T E → ℕ → ℕ
 count_behind (Ok value) before = before
 count_behind (Err fault) before = next_count before
+
+-- A count of ends behind a read of n bytes into a buffer of so many: it rises by one exactly where there was room and
+-- nothing came. It is kept in 64 bits, and so it stays at its last value, as a count of faults does.
+abbrev pub ends_behind : ℕ → ℕ → ℕ → ℕ
+ends_behind n room before = if nat_eq n 0 && nat_lt 0 room then next_count before else before
+
+abbrev pub ends_by_read : {E : Type 0} → Result ℕ E → ℕ → ℕ → ℕ
+ends_by_read (Ok n) room before = ends_behind n room before
+ends_by_read (Err fault) room before = before
 
 -- told bytes stay as they were, or are no longer told
 abbrev pub KeepsOrHides : Option (List ℕ) → Option (List ℕ) → Type 0

@@ -1,5 +1,10 @@
--- How a sink that never fails counts.
-use Rattle.std.specs.Prelude.{ℕ, ◌+◌, ◌-◌, ◌^◌, min, Bool}
+-- How a source and a sink that never fail count.
+use Rattle.std.specs.Prelude.{ℕ, ◌+◌, ◌-◌, ◌^◌, min, Bool, List}
+
+-- what callers see of a source that never fails
+pub record SureSourceState : Type 0 where
+  pub rest : List ℕ
+  pub ends : ℕ
 
 -- what callers see of a sink that never fails
 pub record SureSinkState : Type 0 where

@@ -6,6 +6,7 @@ use Rattle.std.specs.declared.option.Option.{Option}
 pub record StdSourceState (R : Type 0) : Type 0 where
   pub reader : R
   pub faults : ℕ
+  pub ends : ℕ
 
 -- what callers see of a sink over a writer
 pub record StdSinkState (W : Type 0) : Type 0 where

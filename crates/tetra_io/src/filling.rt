@@ -2,7 +2,7 @@
 ghost use Rattle.std.specs.Prelude.{◌≡◌, ◌≤◌, length, OnOk, OnErr};
 ghost use Rattle.std.specs.Io.KnownBytes.{Appends};
 ghost use Rattle.tetra_io.specs.Streams.{HasCause, settled_behind};
-ghost use Rattle.tetra_io.specs.Filling.{Fills, FaultRose, AddsFront};
+ghost use Rattle.tetra_io.specs.Filling.{Fills, FaultRose, AddsFront, ends_filled};
 
 use crate::streams::{Sink, SinkFault, Source};
 
@@ -17,11 +17,12 @@ pub enum Filled {
     Fault,
 }
 
-/// Fills the buffer with the next bytes of a source.
+/// Fills the buffer with the next bytes of a source. It meets the end at most once, and reads nothing behind it.
 pub fn fill<S: Source>(src: &mut S, buf: &mut [u8]) -> Filled
     ensures bytes { Fills (S.rest src.old) (S.rest src.new) result buf.new }
     ensures later { S.faults src.old ≤ S.faults src.new }
     ensures fault { FaultRose result (S.faults src.old) (S.faults src.new) }
+    ensures ended { S.ends src.new ≡ ends_filled result (S.ends src.old) }
 {
     let mut at = 0;
     while at < buf.len() {

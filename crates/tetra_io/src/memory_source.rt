@@ -1,7 +1,7 @@
 // A source over bytes in memory, which fails at the calls that a list names.
 ghost use Rattle.std.specs.Prelude.{◌≡◌, ◌↔◌, length, Some, IsErr, IfOk, Contains};
 ghost use Rattle.std.specs.Io.{ReadsAtMost};
-ghost use Rattle.tetra_io.specs.Streams.{HasCause, Reads, next_count};
+ghost use Rattle.tetra_io.specs.Streams.{HasCause, Reads, next_count, ends_by_read};
 ghost use Rattle.tetra_io.specs.MemorySource.{read_len, after_read};
 
 use crate::calls::{bound, next};
@@ -20,6 +20,7 @@ pub struct MemSource<'a> {
     fail_at: &'a [u64],
     calls: u64,
     faults: u64,
+    ends: u64,
 }
 
 impl<'a> Model for MemSource<'a> {
@@ -33,6 +34,7 @@ impl<'a> Model for MemSource<'a> {
       fail_at = s.fail_at.now;
       calls = s.calls;
       faults = s.faults;
+      ends = s.ends;
     } };
 }
 
@@ -45,6 +47,7 @@ impl<'a> MemSource<'a> {
           fail_at = fail_at.now;
           calls = 0;
           faults = 0;
+          ends = 0;
         } }
     {
         MemSource {
@@ -53,6 +56,7 @@ impl<'a> MemSource<'a> {
             fail_at,
             calls: 0,
             faults: 0,
+            ends: 0,
         }
     }
 }
@@ -62,15 +66,18 @@ impl Source for MemSource<'_> {
 
     ghost faults = { λ s. s.faults };
 
+    ghost ends = { λ s. s.ends };
+
     /// Gives exactly the least of the call's bound, the buffer's length and the number of bytes left.
     fn read(&mut self, buf: &mut [u8]) -> Result<usize, SourceFault>
         ensures bound { ReadsAtMost result buf.new }
         ensures bytes { Reads (Some self.old.rest) (Some self.new.rest) result buf.new }
         ensures cause { HasCause self.old.faults self.new.faults result }
+        ensures ended { self.new.ends ≡ ends_by_read result (length buf.new) self.old.ends }
         // A call fails exactly where the list names its number.
         ensures fails { IsErr result ↔ Contains self.old.fail_at (next_count self.old.calls) }
         ensures amount { IfOk result (λ n. n ≡ read_len self.old (length buf.new)) }
-        ensures state { self.new ≡ after_read self.old result }
+        ensures state { self.new ≡ after_read self.old result (length buf.new) }
     {
         self.calls = next(self.calls);
         if self.fail_at.contains(&self.calls) {
@@ -81,6 +88,9 @@ impl Source for MemSource<'_> {
         let (front, back) = self.rest.split_at(n);
         buf[..n].copy_from_slice(front);
         self.rest = back;
+        if n == 0 && !buf.is_empty() {
+            self.ends = next(self.ends);
+        }
         Ok(n)
     }
 }

@@ -2,7 +2,7 @@
 ghost use Rattle.std.specs.Prelude.{◌≡◌, ℕ, List, length, Bool};
 ghost use Rattle.std.specs.declared.option.Option.{Option};
 ghost use Rattle.std.specs.Io.{ReadsAtMost, WritesAtMost};
-ghost use Rattle.tetra_io.specs.Streams.{HasCause, KeepsOrHides, Reads, Writes, settled_by_write, settled_by_flush};
+ghost use Rattle.tetra_io.specs.Streams.{HasCause, KeepsOrHides, Reads, Writes, ends_by_read, settled_by_write, settled_by_flush};
 
 use thiserror::Error;
 
@@ -24,13 +24,18 @@ pub trait Source {
     /// How often a read has failed. The count never falls, and it stays at 2^64 - 1 once it is there.
     ghost faults: { Self → ℕ };
 
+    /// How often a read into a buffer that is not empty has answered 0, as it does at the end. The count
+    /// stays at 2^64 - 1 once it is there.
+    ghost ends: { Self → ℕ };
+
     /// Reads the next bytes into the front of the buffer, and answers how many they are: at most the
-    /// buffer's length, and 0 for a buffer that is not empty only at the end. A read that fails took
-    /// nothing, and was counted.
+    /// buffer's length, and 0 for a buffer that is not empty only at the end, which was counted. A read
+    /// that fails took nothing, and was counted.
     fn read(&mut self, buf: &mut [u8]) -> Result<usize, SourceFault>
         ensures bound { ReadsAtMost result buf.new }
         ensures bytes { Reads (rest self.old) (rest self.new) result buf.new }
-        ensures cause { HasCause (faults self.old) (faults self.new) result };
+        ensures cause { HasCause (faults self.old) (faults self.new) result }
+        ensures ended { ends self.new ≡ ends_by_read result (length buf.new) (ends self.old) };
 }
 
 /// Where bytes go to, in pieces of any size.

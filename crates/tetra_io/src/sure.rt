@@ -1,9 +1,10 @@
 // A source and a sink that never fail.
 ghost use Rattle.std.specs.Prelude.{◌≡◌, length, min, Some, None, IsOk, IfOk, false, true};
 ghost use Rattle.std.specs.Io.{ReadsAtMost, WritesAtMost};
-ghost use Rattle.tetra_io.specs.Streams.{HasCause, Reads, Writes, KeepsOrHides, settled_by_write, settled_by_flush};
+ghost use Rattle.tetra_io.specs.Streams.{HasCause, Reads, Writes, KeepsOrHides, ends_by_read, settled_by_write, settled_by_flush};
 ghost use Rattle.tetra_io.specs.Sure.{count_with};
 
+use crate::calls::next;
 use crate::streams::{Sink, SinkFault, Source, SourceFault};
 use std::marker::Model;
 
@@ -12,42 +13,52 @@ use std::marker::Model;
 #[derive(Drop)]
 pub struct SureSource<'a> {
     rest: &'a [u8],
+    ends: u64,
 }
 
 impl<'a> Model for SureSource<'a> {
-    ghost use Rattle.std.specs.Prelude.{List, ℕ};
+    ghost use Rattle.tetra_io.specs.Sure.{SureSourceState};
 
-    ghost Value = { List ℕ };
+    ghost Value = { SureSourceState };
 
-    ghost view = { λ s. s.rest.now };
+    ghost view = { λ s. record { rest = s.rest.now; ends = s.ends } };
 }
 
 impl<'a> SureSource<'a> {
-    /// A source of these bytes.
+    /// A source of these bytes, before its first call.
     pub fn new(bytes: &'a [u8]) -> SureSource<'a>
-        ensures { result ≡ bytes.now }
+        ensures { result ≡ record { rest = bytes.now; ends = 0 } }
     {
-        SureSource { rest: bytes }
+        SureSource {
+            rest: bytes,
+            ends: 0,
+        }
     }
 }
 
 impl Source for SureSource<'_> {
-    ghost rest = { λ s. Some s };
+    ghost rest = { λ s. Some s.rest };
 
     ghost faults = { λ _. 0 };
+
+    ghost ends = { λ s. s.ends };
 
     /// Gives as many bytes as there are, up to the buffer's length.
     fn read(&mut self, buf: &mut [u8]) -> Result<usize, SourceFault>
         ensures bound { ReadsAtMost result buf.new }
-        ensures bytes { Reads (Some self.old) (Some self.new) result buf.new }
+        ensures bytes { Reads (Some self.old.rest) (Some self.new.rest) result buf.new }
         ensures cause { HasCause 0 0 result }
+        ensures ended { self.new.ends ≡ ends_by_read result (length buf.new) self.old.ends }
         ensures sure { IsOk result }
-        ensures amount { IfOk result (λ n. n ≡ min (length buf.new) (length self.old)) }
+        ensures amount { IfOk result (λ n. n ≡ min (length buf.new) (length self.old.rest)) }
     {
         let n = buf.len().min(self.rest.len());
         let (front, back) = self.rest.split_at(n);
         buf[..n].copy_from_slice(front);
         self.rest = back;
+        if n == 0 && !buf.is_empty() {
+            self.ends = next(self.ends);
+        }
         Ok(n)
     }
 }

@@ -1,9 +1,10 @@
 // The edge to std's readers and writers, which is trusted.
-ghost use Rattle.std.specs.Prelude.{◌≡◌, false};
+ghost use Rattle.std.specs.Prelude.{◌≡◌, length, false};
 ghost use Rattle.std.specs.Io.{ReadsAtMost, WritesAtMost};
-ghost use Rattle.tetra_io.specs.Streams.{HasCause, Reads, Writes, KeepsOrHides, settled_by_write, settled_by_flush, count_behind};
+ghost use Rattle.tetra_io.specs.Streams.{HasCause, Reads, Writes, KeepsOrHides, ends_by_read, settled_by_write, settled_by_flush, count_behind};
 ghost use Rattle.tetra_io.specs.System.{told_until};
 
+use crate::calls::next;
 use crate::streams::{Sink, SinkFault, Source, SourceFault};
 use std::io::{Read, Write};
 use std::marker::Model;
@@ -15,6 +16,7 @@ use std::marker::Model;
 pub struct StdSource<R> {
     reader: R,
     faults: u64,
+    ends: u64,
 }
 
 impl<R> Model for StdSource<R> {
@@ -22,15 +24,19 @@ impl<R> Model for StdSource<R> {
 
     ghost Value = { StdSourceState R };
 
-    ghost view = { λ s. record { reader = s.reader; faults = s.faults } };
+    ghost view = { λ s. record { reader = s.reader; faults = s.faults; ends = s.ends } };
 }
 
 impl<R: Read> StdSource<R> {
     /// A source over this reader, before its first call.
     pub fn new(reader: R) -> StdSource<R>
-        ensures { result ≡ record { reader = reader; faults = 0 } }
+        ensures { result ≡ record { reader = reader; faults = 0; ends = 0 } }
     {
-        StdSource { reader, faults: 0 }
+        StdSource {
+            reader,
+            faults: 0,
+            ends: 0,
+        }
     }
 }
 
@@ -39,19 +45,27 @@ impl<R: Read> Source for StdSource<R> {
 
     ghost faults = { λ s. s.faults };
 
-    /// One read of the reader, where an `Err` is counted.
+    ghost ends = { λ s. s.ends };
+
+    /// One read of the reader, where an `Err` is counted, and an `Ok(0)` for a buffer that is not empty.
     fn read(&mut self, buf: &mut [u8]) -> Result<usize, SourceFault>
         ensures bound { ReadsAtMost result buf.new }
         ensures bytes { Reads (told_until self.old.faults (R.remaining self.old.reader))
             (told_until self.new.faults (R.remaining self.new.reader)) result buf.new }
         ensures cause { HasCause self.old.faults self.new.faults result }
+        ensures ended { self.new.ends ≡ ends_by_read result (length buf.new) self.old.ends }
         // The count rises at each `Err`, and at nothing else.
         ensures counted { self.new.faults ≡ count_behind result self.old.faults }
     {
         match self.reader.read(buf) {
-            Ok(count) => Ok(count),
+            Ok(count) => {
+                if count == 0 && !buf.is_empty() {
+                    self.ends = next(self.ends);
+                }
+                Ok(count)
+            }
             Err(_) => {
-                self.faults = self.faults.saturating_add(1);
+                self.faults = next(self.faults);
                 Err(SourceFault)
             }
         }
@@ -115,7 +129,7 @@ impl<W: Write> Sink for StdSink<W> {
                 Ok(count)
             }
             _ => {
-                self.faults = self.faults.saturating_add(1);
+                self.faults = next(self.faults);
                 Err(SinkFault)
             }
         }
@@ -136,7 +150,7 @@ impl<W: Write> Sink for StdSink<W> {
                 Ok(())
             }
             Err(_) => {
-                self.faults = self.faults.saturating_add(1);
+                self.faults = next(self.faults);
                 Err(SinkFault)
             }
         }

@@ -16,3 +16,11 @@ quarter_generators = (0 ∷ 1 ∷ 4 ∷ []) ∷ (0 ∷ 2 ∷ 3 ∷ 4 ∷ []) ∷
 
 abbrev pub quarter : ℕ → ℕ → Bool
 quarter i j = taps_of quarter_generators i j
+
+-- the mother code of speech (this project's own numbers, after EN 300 395-2 clause 5): 1+D+D^2+D^3+D^4, 1+D+D^3+D^4
+-- and 1+D^2+D^4
+abbrev pub third_generators : List (List ℕ)
+third_generators = (0 ∷ 1 ∷ 2 ∷ 3 ∷ 4 ∷ []) ∷ (0 ∷ 1 ∷ 3 ∷ 4 ∷ []) ∷ (0 ∷ 2 ∷ 4 ∷ []) ∷ []
+
+abbrev pub third : ℕ → ℕ → Bool
+third i j = taps_of third_generators i j

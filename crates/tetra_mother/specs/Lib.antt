@@ -1,3 +1,3 @@
 pub mod Mother
 pub mod Generators
-pub mod States
+pub mod lemmas

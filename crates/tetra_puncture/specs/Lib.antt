@@ -1,7 +1,5 @@
 pub mod Plan
 pub mod Places
-pub mod Differ
-pub mod TwoThirdsLaws
 pub mod Spread
 pub mod Best
 pub mod Trellis
@@ -9,3 +7,6 @@ pub mod Decoding
 pub mod Rules
 pub mod Certified
 pub mod ToGo
+pub mod lemmas
+pub mod Labels
+pub mod Steps

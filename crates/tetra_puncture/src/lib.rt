@@ -2,20 +2,26 @@
 //! any punctured code: its first-least message, its costs to go, and the rules that show them.
 #![tactic(auto)]
 
+mod branches;
+mod data;
 mod laws;
 mod plan;
 mod rule;
 mod sending;
+mod speech;
 mod spreading;
 mod two_thirds;
 
+pub use branches::{BranchCosts, Labels, branch_cost, branch_costs};
+pub use data::{P148, P292};
 pub use laws::{
     accepted_is_certified, cost_to_go_is_found, cost_to_go_is_one, costs_to_go_are_accepted,
-    words_differ,
+    least_branch_is_row_entry, words_differ,
 };
 pub use plan::Plan;
 pub use rule::Rule;
 pub use sending::keep;
+pub use speech::{SpeechHalf, SpeechWhole};
 pub use spreading::spread;
 pub use two_thirds::TwoThirds;
 

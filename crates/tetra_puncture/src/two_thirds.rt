@@ -12,7 +12,7 @@ pub struct TwoThirds<const STEPS: usize, const SENT: usize>;
 
 impl<const STEPS: usize, const SENT: usize> Plan for TwoThirds<STEPS, SENT> {
     ghost use Rattle.tetra_puncture.specs.Places.{two_thirds, IsTwoThirds};
-    ghost use Rattle.tetra_puncture.specs.TwoThirdsLaws.{two_thirds_sizes, two_thirds_rise, two_thirds_lie, two_thirds_differ};
+    ghost use Rattle.tetra_puncture.specs.lemmas.TwoThirds.{two_thirds_sizes, two_thirds_rise, two_thirds_lie, two_thirds_differ};
     ghost use Rattle.std.specs.Prelude.{refl};
 
     type Code = Quarter;

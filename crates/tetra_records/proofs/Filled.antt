@@ -1,18 +1,19 @@
 -- A buffer that is filled part by part with the bytes behind a letter.
-use Rattle.std.proofs.Common.{◌≡◌, ℕ, ◌+◌, ◌-◌, ◌≤◌, ◌<◌, List, ◌++◌, length, length-append, length-take-le, length-take, length-drop, take, drop, get_or-take, Bool, refl, sym, ap, ◌∙◌, subst, Option, Some, None, Ok, arith, drop_at, append_assoc, append-nil}
-use Rattle.std.specs.Prelude.{slice_index, IfSome}
+use Rattle.std.proofs.Common.{◌≡◌, ℕ, ◌+◌, ◌-◌, ◌≤◌, ◌<◌, List, ◌++◌, length, length-append, length-take-le, length-take, length-drop, take, drop, get_or-take, Bool, refl, sym, ap, ◌∙◌, subst, Option, Ok, arith, drop_at}
+use Rattle.std.specs.Prelude.{slice_index}
 use Rattle.std.specs.Io.KnownBytes.{Consumes, IsAtEnd}
 use Rattle.std.proofs.KnownBytes.{Consumes-trans}
 use Rattle.std.proofs.Math.ListN.{get_or-append}
 use Rattle.std.proofs.lemmas.Slice.{take-put_mid}
 use borrow.Rule.Slice.PartMut.{put_mid}
 use Rattle.tetra_io.specs.Filling.{TakesFewer}
+use Rattle.tetra_io.specs.lemmas.Told.{AreTold-all, Went-behind}
 use Rattle.tetra_settings.specs.declared.slots.Letter.{Letter}
 use Rattle.tetra_settings.specs.declared.slots.Letter.TheVariants.{F, H, S, T, P, Q, C}
 use Rattle.tetra_settings.specs.Blocks.{field_bits}
 use Rattle.tetra_records.specs.declared.parsing.Layout.{Layout}
 use Rattle.tetra_records.specs.Layouts.{access_bytes, mask_bytes, head_bytes, first_sent, second_sent, mask_behind, bits_in, fields_bytes, record_bytes}
-use Rattle.tetra_records.specs.Buffers.{TakesLess, BehindGives}
+use Rattle.tetra_records.specs.Buffers.{TakesLess, EndsShort, BehindGives}
 
 pub part_filled : (from to : ℕ) (xs ys : List ℕ) → from ≤ to → to ≤ length xs → length ys ≡ to - from → take to (put_mid from (to - from) xs ys) ≡ take from xs ++ ys
 part_filled from to xs ys part room size = take-put_mid from (to - from) xs ys to (omega arith) (omega arith)
@@ -65,39 +66,22 @@ module _ (layout : Layout) (buf : List ℕ) (room : head_bytes layout ≤ length
       rw (is_first, is_second, both.0, both.1) refl
 
 -- what was taken where the bytes end in the head
-pub head_ended : (layout : Layout) (old new : Option (List ℕ)) (front : List ℕ) → length front < head_bytes layout → Consumes old new front → IsAtEnd new
-    → IfSome old (λ bytes. (length bytes < record_bytes layout bytes) × Consumes old new bytes)
-head_ended layout None new front short consumed ended = tt
-head_ended layout (Some xs) None front short consumed ended = absurd consumed
-head_ended layout (Some xs) (Some ys) front short consumed ended =
-    let all : xs ≡ front = consumed ∙ ap (λ l. front ++ l) ended ∙ append-nil front in
-    (omega (arith, ap length all, head_small layout xs), consumed ∙ ap (λ l. l ++ ys) (sym all))
+pub head_ended : (layout : Layout) (old new : Option (List ℕ)) (front : List ℕ) → length front < head_bytes layout → Consumes old new front → IsAtEnd new → EndsShort layout old new
+head_ended layout old new front short consumed ended = (front, AreTold-all old new front consumed ended, omega (arith, head_small layout front), consumed)
 
 pub head_failed : (layout : Layout) (old new : Option (List ℕ)) (n : ℕ) → n ≤ head_bytes layout → TakesFewer old new n → TakesLess layout old new
-head_failed layout None new n head took = tt
-head_failed layout (Some xs) None n head took = tt
-head_failed layout (Some xs) (Some ys) n head (part, whole, few) = (part, whole, omega (arith, head_small layout part))
+head_failed layout old new n head (part, few, went) = (part, omega (arith, head_small layout part), went)
 
 -- and in the fields
 module _ (layout : Layout) (old mid new : Option (List ℕ)) (front : List ℕ) (head : head_bytes layout ≤ length front) (came : Consumes old mid front) where
-  pub fields_ended : (more : List ℕ) → length front + length more < record_bytes layout front → Consumes mid new more → IsAtEnd new
-      → IfSome old (λ bytes. (length bytes < record_bytes layout bytes) × Consumes old new bytes)
-  fields_ended more short consumed ended = at_end old new (Consumes-trans old mid new front more came consumed) ended where
-    at_end : (a b : Option (List ℕ)) → Consumes a b (front ++ more) → IsAtEnd b → IfSome a (λ bytes. (length bytes < record_bytes layout bytes) × Consumes a b bytes)
-    at_end None b both end = tt
-    at_end (Some xs) None both end = absurd both
-    at_end (Some xs) (Some ys) both end =
-        let all : xs ≡ front ++ more = both ∙ ap (λ l. (front ++ more) ++ l) end ∙ append-nil (front ++ more) in
-        (omega (arith, ap length all, length-append front more, ap (record_bytes layout) all, size_kept layout front more head), both ∙ ap (λ l. l ++ ys) (sym all))
+  pub fields_ended : (more : List ℕ) → length front + length more < record_bytes layout front → Consumes mid new more → IsAtEnd new → EndsShort layout old new
+  fields_ended more short consumed ended =
+      let both = Consumes-trans old mid new front more came consumed in
+      (front ++ more, AreTold-all old new (front ++ more) both ended, omega (arith, length-append front more, size_kept layout front more head), both)
 
   pub fields_failed : (n : ℕ) → length front + n ≤ record_bytes layout front → TakesFewer mid new n → TakesLess layout old new
-  fields_failed n size took = failed old mid new came took where
-    failed : (a m b : Option (List ℕ)) → Consumes a m front → TakesFewer m b n → TakesLess layout a b
-    failed None m b first more = tt
-    failed (Some xs) None b first more = absurd first
-    failed (Some xs) (Some ms) None first more = tt
-    failed (Some xs) (Some ms) (Some ys) first (part, whole, few) =
-        (front ++ part, first ∙ ap (λ l. front ++ l) whole ∙ sym (append_assoc front part ys), omega (arith, length-append front part, size_kept layout front part head))
+  fields_failed n size (part, few, went) =
+      (front ++ part, omega (arith, length-append front part, size_kept layout front part head), Went-behind old mid new front part came went)
 
 module _ (layout : Layout) (old mid new : Option (List ℕ)) (one two : List ℕ) (h fields : ℕ) (bits : List ℕ) (first second : Bool) (at : ℕ)
     (at_head : h ≡ head_bytes layout) (at_access : at ≡ access_bytes layout.dir) (long : length one ≡ 88) (room : h ≤ 88)
@@ -124,8 +108,7 @@ module _ (layout : Layout) (old mid new : Option (List ℕ)) (one two : List ℕ
   rest_length : length (drop h (take (h + fields) two)) ≤ fields
   rest_length = omega (arith, length-drop h (take (h + fields) two), length-take (h + fields) two)
 
-  pub behind_ended : (n : ℕ) → n < length (drop h (take (h + fields) two)) → Consumes mid new (take n (drop h (take (h + fields) two))) → IsAtEnd new
-      → IfSome old (λ bytes. (length bytes < record_bytes layout bytes) × Consumes old new bytes)
+  pub behind_ended : (n : ℕ) → n < length (drop h (take (h + fields) two)) → Consumes mid new (take n (drop h (take (h + fields) two))) → IsAtEnd new → EndsShort layout old new
   behind_ended n few more ended =
       fields_ended layout old mid new (take h one) head_long came (take n (drop h (take (h + fields) two)))
       (omega (arith, sized, length-take n (drop h (take (h + fields) two)), length-take h one, rest_length)) more ended

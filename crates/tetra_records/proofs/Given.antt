@@ -1,10 +1,11 @@
 -- What a letter and the bytes behind it say of the told bytes that they came from.
-use Rattle.std.proofs.Common.{◌≡◌, ℕ, ◌≤◌, ◌<◌, List, [], ◌∷◌, ◌++◌, length, length-append, take, Bool, true, false, nat_le, refl, sym, ap, ◌∙◌, subst, inr, Option, Some, None, Ok, Err, arith, length-take, find, nat_eq}
-use Rattle.std.specs.Prelude.{slice_index, IfSome}
+use Rattle.std.proofs.Common.{◌≡◌, ℕ, ◌≤◌, ◌<◌, List, [], ◌∷◌, ◌++◌, length, length-append, take, Bool, true, false, nat_le, refl, sym, ap, ◌∙◌, subst, inr, Option, Some, None, Ok, Err, arith, length-take, find, nat_eq, append-nil}
+use Rattle.std.specs.Prelude.{slice_index}
 use Rattle.std.specs.Io.KnownBytes.{Consumes}
 use Rattle.std.proofs.KnownBytes.{Consumes-trans}
 use Rattle.std.proofs.Math.Seq.{take-append_seam}
 use Rattle.std.proofs.lemmas.Bool.{eqb-true}
+use Rattle.tetra_io.specs.lemmas.Told.{AreTold-some, AreTold-behind, Went-behind}
 use Rattle.tetra_settings.specs.declared.types.Settings.{Settings}
 use Rattle.tetra_settings.specs.declared.slots.Letter.{Letter}
 use Rattle.tetra_settings.specs.declared.blocks.SlotBlocks.{SlotBlocks}
@@ -16,7 +17,7 @@ use Rattle.tetra_records.specs.declared.faults.NextFault.TheVariants.{Source, Ba
 use Rattle.tetra_records.specs.declared.parsing.Layout.{Layout}
 use Rattle.tetra_records.specs.Spelling.{behind_letter, spelling}
 use Rattle.tetra_records.specs.Layouts.{head_bytes, record_bytes, IsOf, RecordHasPad}
-use Rattle.tetra_records.specs.Buffers.{TakesLess, BehindGives}
+use Rattle.tetra_records.specs.Buffers.{TakesLess, EndsShort, BehindGives}
 use Rattle.tetra_records.specs.Records.{layout_of, allows_letter, why, why_behind, taken, taken_behind, BeginsNone, TakesPart, RecordGives, PadBehind, HasPadBit}
 use Rattle.tetra_records.proofs.Beginnings.{unknown_begins, wrong_begins, short_begins, padded_begins}
 use Rattle.tetra_records.proofs.Filled.{size_kept}
@@ -69,60 +70,62 @@ module _ (settings : Settings) (t byte : ℕ) where
 
   pub unknown_from : (old mid : Option (List ℕ)) → Consumes old mid (byte ∷ []) → letter_of_byte byte ≡ None → BeginsNone settings t UnknownKind old mid
   unfolding taken
-  unknown_from None mid came unknown = tt
-  unknown_from (Some xs) None came unknown = absurd came
-  unknown_from (Some xs) (Some ys) came unknown = rw came (omega arith, unknown_begins settings t byte ys unknown, why_unknown ys unknown, refl)
+  unknown_from old mid came unknown =
+      let (ys, told) = AreTold-some mid in
+      record {
+        bytes = byte ∷ ys;
+        told = AreTold-behind old mid (byte ∷ []) ys came told;
+        some = omega arith;
+        none = unknown_begins settings t byte ys unknown;
+        reason = why_unknown ys unknown;
+        pads = λ is. absurd (cc is);
+        went = came;
+      }
 
   pub wrong_from : (old mid : Option (List ℕ)) (letter : Letter) → Consumes old mid (byte ∷ []) → letter_of_byte byte ≡ Some letter → allows_letter settings t letter ≡ false
       → BeginsNone settings t WrongKind old mid
   unfolding taken
-  wrong_from None mid letter came known wrong = tt
-  wrong_from (Some xs) None letter came known wrong = absurd came
-  wrong_from (Some xs) (Some ys) letter came known wrong = rw came (omega arith, wrong_begins settings t byte ys letter known wrong, why_wrong ys letter known wrong, refl)
+  wrong_from old mid letter came known wrong =
+      let (ys, told) = AreTold-some mid in
+      record {
+        bytes = byte ∷ ys;
+        told = AreTold-behind old mid (byte ∷ []) ys came told;
+        some = omega arith;
+        none = wrong_begins settings t byte ys letter known wrong;
+        reason = why_wrong ys letter known wrong;
+        pads = λ is. absurd (cc is);
+        went = came;
+      }
 
   module _ (letter : Letter) (known : letter_of_byte byte ≡ Some letter) (right : allows_letter settings t letter ≡ true) where
     -- the bytes end inside the record
-    short_from : (old mid new : Option (List ℕ)) → Consumes old mid (byte ∷ []) → IfSome mid (λ bytes. (length bytes < record_bytes (layout_of settings t letter) bytes) × Consumes mid new bytes)
-        → BeginsNone settings t Truncated old new
+    short_from : (old mid new : Option (List ℕ)) → Consumes old mid (byte ∷ []) → EndsShort (layout_of settings t letter) mid new → BeginsNone settings t Truncated old new
     unfolding taken
-    short_from None mid new came short = tt
-    short_from (Some xs) None new came short = absurd came
-    short_from (Some xs) (Some ms) None came short = absurd short.1
-    short_from (Some xs) (Some ms) (Some ys) came short =
-        rw came (omega arith, short_begins settings t byte ms letter known short.0, why_short ms letter known right short.0, ap (λ l. byte ∷ l) short.1)
+    short_from old mid new came (ms, told, short, more) = record {
+      bytes = byte ∷ ms;
+      told = AreTold-behind old mid (byte ∷ []) ms came told;
+      some = omega arith;
+      none = short_begins settings t byte ms letter known short;
+      reason = why_short ms letter known right short;
+      pads = λ is. absurd (cc is);
+      went = Consumes-trans old mid new (byte ∷ []) ms came more;
+    }
 
     -- a read failed inside the record
     part_from : (old mid new : Option (List ℕ)) → Consumes old mid (byte ∷ []) → TakesLess (layout_of settings t letter) mid new → TakesPart settings t old new
-    part_from None mid new came took = tt
-    part_from (Some xs) None new came took = absurd came
-    part_from (Some xs) (Some ms) None came took = tt
-    part_from (Some xs) (Some ms) (Some ys) came (part, whole, short) =
-        (byte ∷ part, came ∙ ap (λ l. byte ∷ l) whole, inr (short_begins settings t byte part letter known short, why_short part letter known right short))
+    part_from old mid new came (part, short, went) =
+        (byte ∷ part, Went-behind old mid new (byte ∷ []) part came went, inr (short_begins settings t byte part letter known short, why_short part letter known right short))
 
     pub failed_from : (layout : Layout) (old mid new : Option (List ℕ)) (buf : List ℕ) (fault : NextFault) → layout ≡ layout_of settings t letter → Consumes old mid (byte ∷ [])
         → BehindGives layout mid new (Err fault) buf → RecordGives settings t old new (Err fault)
     failed_from layout old mid new buf (Source fault) same came gives = part_from old mid new came (subst (λ l. TakesLess l mid new) same gives)
     failed_from layout old mid new buf (Bad fault) same came gives =
         subst (λ f. BeginsNone settings t f old new) (sym gives.0)
-        (short_from old mid new came (subst (λ l. IfSome mid (λ bytes. (length bytes < record_bytes l bytes) × Consumes mid new bytes)) same gives.1))
+        (short_from old mid new came (subst (λ l. EndsShort l mid new) same gives.1))
 
     -- the record is whole
     module _ (layout : Layout) (old mid new : Option (List ℕ)) (buf : List ℕ) (n : ℕ) (same : layout ≡ layout_of settings t letter) (long : length buf ≡ 88)
         (came : Consumes old mid (byte ∷ [])) (gives : BehindGives layout mid new (Ok n) buf) where
-      pub blocks_from : (blocks : SlotBlocks) → IsOf layout blocks → behind_letter blocks ≡ take n buf → Fits settings t blocks × Consumes old new (spelling blocks)
-      unfolding spelling
-      blocks_from blocks own behind =
-          let its : letter_of blocks.body ≡ letter = own.letter ∙ ap (λ l. l.letter) same in
-          let first : byte_of (letter_of blocks.body) ≡ byte = ap byte_of its ∙ letter_byte byte letter known in
-          let whole : (byte ∷ []) ++ take n buf ≡ byte_of (letter_of blocks.body) ∷ behind_letter blocks = sym (ap (λ b. b ∷ behind_letter blocks) first ∙ ap (λ l. byte ∷ l) behind) in (
-            record {
-              letter = ap (allows_letter settings t) its ∙ right;
-              lengths = subst (λ l. HasLengths l.mode blocks.body) same own.lengths;
-              access = subst (λ l. FitsAccess l.dir blocks.aach) same own.access;
-            },
-            subst (Consumes old new) whole (Consumes-trans old mid new (byte ∷ []) (take n buf) came gives.3),
-          )
-
       -- the bytes of the record in what is told
       told_size : (ys : List ℕ) → record_bytes (layout_of settings t letter) (take n buf ++ ys) ≡ length (take n buf)
       told_size ys =
@@ -138,47 +141,45 @@ module _ (settings : Settings) (t byte : ℕ) where
           → RecordHasPad (layout_of settings t letter) (take (record_bytes (layout_of settings t letter) (take n buf ++ ys)) (take n buf ++ ys))
       pad_told ys pad = subst (RecordHasPad (layout_of settings t letter)) (sym (told_record ys)) (subst (λ l. RecordHasPad l (take n buf)) same pad)
 
-      told_pad : (ys : List ℕ) → HasPadBit settings t (byte ∷ (take n buf ++ ys)) → RecordHasPad layout (take n buf)
+      pad_is_told : (ys : List ℕ) → RecordHasPad layout (take n buf) → HasPadBit settings t (byte ∷ (take n buf ++ ys))
       unfolding HasPadBit
-      told_pad ys pad =
-          subst (λ l. RecordHasPad l (take n buf)) (sym same) (subst (RecordHasPad (layout_of settings t letter)) (told_record ys) (subst (λ l. PadBehind settings t l (take n buf ++ ys)) known pad))
+      pad_is_told ys pad = subst (λ l. PadBehind settings t l (take n buf ++ ys)) (sym known) (pad_told ys pad)
 
-      pub clean_from : (RecordHasPad layout (take n buf) → ⊥) → IfSome old (λ bytes. HasPadBit settings t bytes → ⊥)
-      clean_from clean = at_bytes old mid new came gives.3 told_pad where
-        at_bytes : (a m b : Option (List ℕ)) → Consumes a m (byte ∷ []) → Consumes m b (take n buf) → ((ys : List ℕ) → HasPadBit settings t (byte ∷ (take n buf ++ ys)) → RecordHasPad layout (take n buf))
-            → IfSome a (λ bytes. HasPadBit settings t bytes → ⊥)
-        at_bytes None m b first more told = tt
-        at_bytes (Some xs) None b first more told = absurd first
-        at_bytes (Some xs) (Some ms) None first more told = absurd more
-        at_bytes (Some xs) (Some ms) (Some ys) first more told = λ pad. clean (told ys (subst (HasPadBit settings t) (first ∙ ap (λ l. byte ∷ l) more) pad))
+      -- and the other way round
+      record_pad : HasPadBit settings t (byte ∷ take n buf) → RecordHasPad layout (take n buf)
+      unfolding HasPadBit
+      record_pad pad =
+          let whole : take (record_bytes (layout_of settings t letter) (take n buf)) (take n buf) ≡ take n buf =
+          subst (λ l. take (record_bytes (layout_of settings t letter) l) l ≡ take n buf) (append-nil (take n buf)) (told_record []) in
+          subst (λ l. RecordHasPad l (take n buf)) (sym same) (subst (RecordHasPad (layout_of settings t letter)) whole (subst (λ l. PadBehind settings t l (take n buf)) known pad))
+
+      pub blocks_from : (blocks : SlotBlocks) → IsOf layout blocks → behind_letter blocks ≡ take n buf → (RecordHasPad layout (take n buf) → ⊥) → RecordGives settings t old new (Ok (Some blocks))
+      unfolding spelling
+      blocks_from blocks own behind clean =
+          let its : letter_of blocks.body ≡ letter = own.letter ∙ ap (λ l. l.letter) same in
+          let first : byte_of (letter_of blocks.body) ≡ byte = ap byte_of its ∙ letter_byte byte letter known in
+          let whole : (byte ∷ []) ++ take n buf ≡ byte_of (letter_of blocks.body) ∷ behind_letter blocks = sym (ap (λ b. b ∷ behind_letter blocks) first ∙ ap (λ l. byte ∷ l) behind) in (
+            record {
+              letter = ap (allows_letter settings t) its ∙ right;
+              lengths = subst (λ l. HasLengths l.mode blocks.body) same own.lengths;
+              access = subst (λ l. FitsAccess l.dir blocks.aach) same own.access;
+            },
+            λ pad. clean (record_pad (subst (HasPadBit settings t) (sym whole) pad)),
+            subst (Consumes old new) whole (Consumes-trans old mid new (byte ∷ []) (take n buf) came gives.3),
+          )
 
       pub padded_from : RecordHasPad layout (take n buf) → BeginsNone settings t PadBit old new
       unfolding taken
-      padded_from pad = at_bytes old mid new came gives.3 told_size (λ ys. pad_told ys pad) told_record where
-        at_bytes : (a m b : Option (List ℕ)) → Consumes a m (byte ∷ []) → Consumes m b (take n buf)
-            → ((ys : List ℕ) → record_bytes (layout_of settings t letter) (take n buf ++ ys) ≡ length (take n buf))
-            → ((ys : List ℕ) → RecordHasPad (layout_of settings t letter) (take (record_bytes (layout_of settings t letter) (take n buf ++ ys)) (take n buf ++ ys)))
-            → ((ys : List ℕ) → take (record_bytes (layout_of settings t letter) (take n buf ++ ys)) (take n buf ++ ys) ≡ take n buf) → BeginsNone settings t PadBit a b
-        at_bytes None m b first more size has record_is = tt
-        at_bytes (Some xs) None b first more size has record_is = absurd first
-        at_bytes (Some xs) (Some ms) None first more size has record_is = absurd more
-        at_bytes (Some xs) (Some ms) (Some ys) first more size has record_is =
-            let all : xs ≡ byte ∷ (take n buf ++ ys) = first ∙ ap (λ l. byte ∷ l) more in
-            rw all (
-              omega arith,
-              padded_begins settings t byte (take n buf ++ ys) letter known (has ys),
-              why_padded (take n buf ++ ys) letter known right (omega (arith, size ys, length-append (take n buf) ys)),
-              sym (ap (λ l. byte ∷ (l ++ ys)) (ap (λ o. take (taken_behind settings t o (take n buf ++ ys)) (take n buf ++ ys)) known ∙ record_is ys)),
-            )
-
-      pub pad_from : RecordHasPad layout (take n buf) → IfSome old (λ bytes. HasPadBit settings t bytes)
-      unfolding HasPadBit
-      pad_from pad = at_bytes old mid new came gives.3 (λ ys. pad_told ys pad) where
-        at_bytes : (a m b : Option (List ℕ)) → Consumes a m (byte ∷ []) → Consumes m b (take n buf)
-            → ((ys : List ℕ) → RecordHasPad (layout_of settings t letter) (take (record_bytes (layout_of settings t letter) (take n buf ++ ys)) (take n buf ++ ys)))
-            → IfSome a (λ bytes. HasPadBit settings t bytes)
-        at_bytes None m b first more has = tt
-        at_bytes (Some xs) None b first more has = absurd first
-        at_bytes (Some xs) (Some ms) None first more has = absurd more
-        at_bytes (Some xs) (Some ms) (Some ys) first more has =
-            subst (HasPadBit settings t) (sym (first ∙ ap (λ l. byte ∷ l) more)) (subst (λ o. PadBehind settings t o (take n buf ++ ys)) (sym known) (has ys))
+      padded_from pad =
+          let (ys, told) = AreTold-some new in
+          let bytes = take n buf ++ ys in
+          let record_is : take (taken_behind settings t (letter_of_byte byte) bytes) bytes ≡ take n buf = ap (λ o. take (taken_behind settings t o bytes) bytes) known ∙ told_record ys in
+          record {
+            bytes = byte ∷ bytes;
+            told = AreTold-behind old mid (byte ∷ []) bytes came (AreTold-behind mid new (take n buf) ys gives.3 told);
+            some = omega arith;
+            none = padded_begins settings t byte bytes letter known (pad_told ys pad);
+            reason = why_padded bytes letter known right (omega (arith, told_size ys, length-append (take n buf) ys));
+            pads = λ is. pad_is_told ys pad;
+            went = subst (λ l. Consumes old new (byte ∷ l)) (sym record_is) (Consumes-trans old mid new (byte ∷ []) (take n buf) came gives.3);
+          }

@@ -3,20 +3,11 @@ use Rattle.std.specs.Prelude.{ℕ, ◌≤◌, ◌/◌, ◌%◌, List, [], ◌∷
 use Rattle.std.specs.List.{flat_map}
 use Rattle.std.specs.declared.option.Option.{Option}
 use Rattle.tetra_bits.specs.Packed.{packed}
-use Rattle.tetra_bits.specs.Readings.{entry}
-use Rattle.tetra_bits.specs.declared.reading.Mark.{Mark}
-use Rattle.tetra_bits.specs.declared.reading.Mark.TheVariants.{Good, Bad, Unchecked, NotYet}
+use Rattle.tetra_bits.specs.Readings.{entry, mark_byte}
 use Rattle.tetra_settings.specs.declared.readings.Field.{Field}
 use Rattle.tetra_settings.specs.declared.readings.SlotReading.{SlotReading}
 use Rattle.tetra_settings.specs.declared.types.Form.{Form}
 use Rattle.tetra_settings.specs.declared.types.Form.TheVariants.{Plain, Audit}
-
--- the bytes of the marks: G, B, U and N
-abbrev pub mark_byte : Mark → ℕ
-mark_byte Good = 71
-mark_byte Bad = 66
-mark_byte Unchecked = 85
-mark_byte NotYet = 78
 
 -- a number below 2^16 in two bytes
 abbrev pub two_bytes : ℕ → List ℕ

@@ -1,8 +1,9 @@
 -- What bytes say of the record of a slot.
-use Rattle.std.specs.Prelude.{ℕ, ◌≡◌, ◌⊎◌, ◌<◌, nat_le, Bool, not, if◌then◌else◌, List, [], ◌∷◌, ◌++◌, length, take, ⊤, None, Some, Ok, Err, Result, IfSome}
+use Rattle.std.specs.Prelude.{ℕ, ◌≡◌, ◌⊎◌, ◌<◌, nat_le, Bool, not, if◌then◌else◌, List, [], ◌∷◌, ◌++◌, length, take, ⊤, None, Some, Ok, Err, Result}
 use Rattle.std.specs.Io.KnownBytes.{Consumes, IsAtEnd}
 use Rattle.std.specs.declared.option.Option.{Option}
-use Rattle.tetra_io.specs.Streams.{Rose}
+use Rattle.tetra_io.specs.Streams.{Rose, next_count}
+use Rattle.tetra_io.specs.Filling.{AreTold, Went}
 use Rattle.tetra_settings.specs.declared.types.Settings.{Settings}
 use Rattle.tetra_settings.specs.declared.slots.Letter.{Letter}
 use Rattle.tetra_settings.specs.declared.blocks.SlotBlocks.{SlotBlocks}
@@ -56,35 +57,7 @@ taken settings t WrongKind bytes = take 1 bytes
 taken settings t PadBit bytes = record_taken settings t bytes
 taken settings t Truncated bytes = bytes
 
--- told bytes, at least one, begin with no record of slot t, this is why, and so many were taken
-abbrev pub BeginsNone : Settings → ℕ → RecordFault → Option (List ℕ) → Option (List ℕ) → Type 0
-BeginsNone settings t fault old new =
-    IfSome old (λ bytes. (0 < length bytes) × NoneBegins settings t bytes × (why settings t bytes ≡ fault)
-    × Consumes old new (taken settings t fault bytes))
-
--- told bytes that went are none, or begin with no record of slot t for want of more
-abbrev pub TakesPart : Settings → ℕ → Option (List ℕ) → Option (List ℕ) → Type 0
-TakesPart settings t None new = ⊤
-TakesPart settings t (Some bytes) None = ⊤
-TakesPart settings t (Some bytes) (Some rest) =
-    (part : List ℕ) × (bytes ≡ part ++ rest)
-    × ((part ≡ []) ⊎ (NoneBegins settings t part × (why settings t part ≡ Truncated)))
-
--- what reading the record of slot t gives
-abbrev pub RecordGives : Settings → ℕ
-    → Option (List ℕ) → Option (List ℕ) → Result (Option SlotBlocks) NextFault → Type 0
-RecordGives settings t old new (Ok None) = IsAtEnd old × IsAtEnd new × Consumes old new []
-RecordGives settings t old new (Ok (Some blocks)) = Fits settings t blocks × Consumes old new (spelling blocks)
-RecordGives settings t old new (Err (Source fault)) = TakesPart settings t old new
-RecordGives settings t old new (Err (Bad fault)) = BeginsNone settings t fault old new
-
--- only a fault of the source comes with a cause
-abbrev pub RecordRose : ℕ → ℕ → Result (Option SlotBlocks) NextFault → Type 0
-RecordRose before now (Ok blocks) = Unit {0}
-RecordRose before now (Err (Source fault)) = Rose before now
-RecordRose before now (Err (Bad fault)) = Unit {0}
-
--- a pad bit is 1 in a record of slot t
+-- a pad bit is 1 in bytes of which so many are the record of slot t
 abbrev pub PadBehind : Settings → ℕ → Option Letter → List ℕ → Type 0
 PadBehind settings t None bytes = ⊥
 PadBehind settings t (Some letter) bytes = RecordHasPad (layout_of settings t letter)
@@ -94,11 +67,53 @@ unfoldable pub HasPadBit : Settings → ℕ → List ℕ → Type 0
 HasPadBit settings t [] = ⊥
 HasPadBit settings t (byte ∷ bytes) = PadBehind settings t (letter_of_byte byte) bytes
 
--- a record of told bytes is refused for a pad bit where one is 1, and not read where one is
-abbrev pub RecordPads : Settings → ℕ → Option (List ℕ) → Result (Option SlotBlocks) NextFault → Type 0
-RecordPads settings t old (Ok (Some blocks)) = IfSome old (λ bytes. HasPadBit settings t bytes → ⊥)
-RecordPads settings t old (Err (Bad PadBit)) = IfSome old (λ bytes. HasPadBit settings t bytes)
-RecordPads settings t old result = Unit {0}
+-- The bytes, those that are told, begin with no record of slot t, and this is why.
+pub record BeginsNone (settings : Settings) (t : ℕ) (fault : RecordFault) (old new : Option (List ℕ)) : Type 0 where
+  pub bytes : List ℕ
+  pub told : AreTold old bytes
+  pub some : 0 < length bytes
+  pub none : NoneBegins settings t bytes
+  pub reason : why settings t bytes ≡ fault
+  -- a record is refused for a pad bit only where one is 1
+  pub pads : fault ≡ PadBit → HasPadBit settings t bytes
+  -- so many bytes were taken
+  pub went : Consumes old new (taken settings t fault bytes)
+
+-- the bytes that went are none, or begin with no record of slot t for want of more
+abbrev pub TakesPart : Settings → ℕ → Option (List ℕ) → Option (List ℕ) → Type 0
+TakesPart settings t old new =
+    (part : List ℕ) × Went old new part
+    × ((part ≡ []) ⊎ (NoneBegins settings t part × (why settings t part ≡ Truncated)))
+
+-- what reading the record of slot t gives; no pad bit of a record that was read is 1
+abbrev pub RecordGives : Settings → ℕ
+    → Option (List ℕ) → Option (List ℕ) → Result (Option SlotBlocks) NextFault → Type 0
+RecordGives settings t old new (Ok None) = IsAtEnd old × IsAtEnd new × Consumes old new []
+RecordGives settings t old new (Ok (Some blocks)) =
+    Fits settings t blocks × (HasPadBit settings t (spelling blocks) → ⊥) × Consumes old new (spelling blocks)
+RecordGives settings t old new (Err (Source fault)) = TakesPart settings t old new
+RecordGives settings t old new (Err (Bad fault)) = BeginsNone settings t fault old new
+
+-- only a fault of the source comes with a cause
+abbrev pub RecordRose : ℕ → ℕ → Result (Option SlotBlocks) NextFault → Type 0
+RecordRose before now (Ok blocks) = Unit {0}
+RecordRose before now (Err (Source fault)) = Rose before now
+RecordRose before now (Err (Bad fault)) = Unit {0}
+
+-- the count of ends where bytes are no record: it rises by one exactly where they end
+abbrev pub ends_by_fault : RecordFault → ℕ → ℕ
+ends_by_fault UnknownKind before = before
+ends_by_fault WrongKind before = before
+ends_by_fault PadBit before = before
+ends_by_fault Truncated before = next_count before
+
+-- the count of ends behind the reading of a record: it rises by one exactly where nothing was left or the record was
+-- cut off
+abbrev pub ends_by_record : Result (Option SlotBlocks) NextFault → ℕ → ℕ
+ends_by_record (Ok None) before = next_count before
+ends_by_record (Ok (Some blocks)) before = before
+ends_by_record (Err (Source fault)) before = before
+ends_by_record (Err (Bad why)) before = ends_by_fault why before
 
 -- blocks that slot t may carry and whose records begin the same bytes are the same
 abbrev pub IsUnambiguous : Settings → Type 0

@@ -5,16 +5,12 @@ ghost use Rattle.arrayvec.specs.ArrayVec.{array_vec_len};
 ghost use Rattle.tetra_bits.specs.Readings.{entry};
 ghost use Rattle.tetra_bits.specs.Packed.{bytes_for};
 ghost use Rattle.tetra_settings.specs.Readings.{IsWellFormed, IsField};
-ghost use Rattle.tetra_records.specs.Readings.{mark_byte, two_bytes, row_bytes, table_bytes, field_bytes, reading_spelling, IsSmall};
+ghost use Rattle.tetra_records.specs.Readings.{two_bytes, row_bytes, table_bytes, field_bytes, reading_spelling, IsSmall};
 ghost use Rattle.tetra_records.specs.Rooms.{room_of};
 
 use arrayvec::ArrayVec;
-use tetra_bits::{Mark, Potentials, pack};
+use tetra_bits::{Potentials, pack};
 use tetra_settings::{Field, Form, SlotReading};
-
-/// The most bytes that a reading record has: on the downlink a letter P with its access field, two half slots and
-/// protected data, each with its certificate.
-pub const LONGEST_READING: usize = 18743;
 
 /// The reading record: a letter, and for each field a mark, a metric of two bytes, the bits packed, and
 /// in form `Audit` the certificate of a trellis field, a row of 16 potentials before each step and one
@@ -30,7 +26,8 @@ pub fn reading_bytes(reading: &SlotReading, form: Form) -> ArrayVec<u8, 18743>
     record
 }
 
-/// Puts the reading record behind what stands in `out`, which has room for the longest one.
+/// Puts the reading record behind what stands in `out`, which has room for the longest one: on the downlink a letter P
+/// with its access field, two half slots and protected data, each with its certificate.
 pub fn add_reading<const N: usize>(reading: &SlotReading, form: Form, out: &mut ArrayVec<u8, N>)
     requires formed { IsWellFormed reading.now }
     requires small { All IsSmall reading.now.fields.items }
@@ -43,17 +40,6 @@ pub fn add_reading<const N: usize>(reading: &SlotReading, form: Form, out: &mut 
     }
 }
 
-fn byte_of(mark: Mark) -> u8
-    ensures { result ≡ mark_byte mark }
-{
-    match mark {
-        Mark::Good => b'G',
-        Mark::Bad => b'B',
-        Mark::Unchecked => b'U',
-        Mark::NotYet => b'N',
-    }
-}
-
 #[tactic(auto, unfolding(crate::specs::Readings::field_bytes))]
 fn add_field<const N: usize>(field: &Field, form: Form, out: &mut ArrayVec<u8, N>)
     requires field { IsField field.now }
@@ -63,7 +49,7 @@ fn add_field<const N: usize>(field: &Field, form: Form, out: &mut ArrayVec<u8, N
     ensures len { array_vec_len out.new ≤ array_vec_len out.old + room_of field.now.name }
 {
     let reading = &field.reading;
-    out.push(byte_of(reading.mark));
+    out.push(reading.mark.byte());
     add_number(reading.metric, out);
     let bits = pack(&reading.bits);
     out.try_extend_from_slice(bits.as_slice()).unwrap();

@@ -1,9 +1,9 @@
 // Reading one block record.
 ghost use Rattle.std.specs.Prelude.{◌≡◌, ◌≤◌, ◌-◌, ◌+◌, ◌++◌, length, take, drop};
-ghost use Rattle.tetra_io.specs.Filling.{Fills, FaultRose};
+ghost use Rattle.tetra_io.specs.Filling.{Fills, FaultRose, ends_filled};
 ghost use Rattle.tetra_settings.specs.Validity.{IsValid};
-ghost use Rattle.tetra_records.specs.Buffers.{BehindGives, BehindRose};
-ghost use Rattle.tetra_records.specs.Records.{RecordGives, RecordRose, RecordPads};
+ghost use Rattle.tetra_records.specs.Buffers.{BehindGives, BehindRose, ends_behind_letter};
+ghost use Rattle.tetra_records.specs.Records.{RecordGives, RecordRose, ends_by_record};
 
 use crate::faults::{NextFault, RecordFault};
 use crate::parsing::{Layout, access_len, fields_len, head_len, parse, sent_by};
@@ -18,6 +18,7 @@ fn fill_part<S: Source>(src: &mut S, buf: &mut [u8; 88], from: usize, to: usize)
     ensures front { take to buf.new ≡ take from buf.old ++ drop from (take to buf.new) }
     ensures later { S.faults src.old ≤ S.faults src.new }
     ensures fault { FaultRose result (S.faults src.old) (S.faults src.new) }
+    ensures ended { S.ends src.new ≡ ends_filled result (S.ends src.old) }
 {
     fill(src, &mut buf[from..to])
 }
@@ -31,6 +32,7 @@ fn read_behind<S: Source>(
     ensures gives { BehindGives layout (S.rest src.old) (S.rest src.new) result buf.new }
     ensures later { S.faults src.old ≤ S.faults src.new }
     ensures cause { BehindRose (S.faults src.old) (S.faults src.new) result }
+    ensures ended { S.ends src.new ≡ ends_behind_letter result (S.ends src.old) }
 {
     let head = head_len(layout);
     match fill_part(src, buf, 0, head) {
@@ -59,10 +61,10 @@ pub fn next_record<S: Source>(
 ) -> Result<Option<SlotBlocks>, NextFault>
     requires { IsValid settings.now }
     ensures gives { RecordGives settings.now t (S.rest src.old) (S.rest src.new) result }
-    // A record is refused for a pad bit exactly where one is 1.
-    ensures pads { RecordPads settings.now t (S.rest src.old) result }
     ensures later { S.faults src.old ≤ S.faults src.new }
     ensures cause { RecordRose (S.faults src.old) (S.faults src.new) result }
+    // The end is met once where nothing was left or the record was cut off, and else not.
+    ensures ended { S.ends src.new ≡ ends_by_record result (S.ends src.old) }
 {
     let mut first = [0; 1];
     match fill(src, &mut first) {

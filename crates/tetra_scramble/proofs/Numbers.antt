@@ -6,7 +6,7 @@ use Rattle.std.proofs.lemmas.List.{length-append}
 use Rattle.std.proofs.lemmas.Nat.{mod-pow-add, pow-add, or_shifted}
 use Rattle.std.specs.Int.Bits.{bit_or}
 use Rattle.tetra_bits.specs.Numbered.{length-numbered, numbered_same}
-use Rattle.tetra_bits.proofs.Digits.{length-digits, digits-cat, no_digit}
+use Rattle.tetra_bits.specs.lemmas.Digits.{length-digits, digits-cat, no_digit}
 use Rattle.tetra_bits.specs.Sums.{bit_number}
 use Rattle.tetra_bits.specs.Digits.{digit, digits}
 use Rattle.tetra_scramble.specs.Colour.{IsColour, colour_bits}

@@ -6,9 +6,7 @@ use Rattle.std.specs.Str.{bytes_eq}
 use Rattle.std.specs.Str.Parse.{digits_value}
 use Rattle.std.proofs.lemmas.Bool.{false≢true}
 use Rattle.std.proofs.lemmas.Slice.Eq.{bytes_eq-Decides}
-use Rattle.tetra_settings.specs.declared.keys.TheConstants.{KEYS}
 use Rattle.tetra_settings.specs.declared.keys.Key.{Key}
-use Rattle.tetra_settings.specs.declared.keys.Key.TheVariants.{Ts1, Ts2, Ts3, Ts4}
 use Rattle.std.specs.Prelude.{codes}
 use Rattle.tetra_settings.specs.declared.types.Command.{Command}
 use Rattle.tetra_settings.specs.declared.types.WordWhy.{WordWhy}
@@ -17,9 +15,9 @@ use Rattle.tetra_settings.specs.declared.values.Value.{Value}
 use Rattle.tetra_settings.specs.declared.values.Value.TheVariants.{Number, Direction, Timeslot, Shape}
 use Rattle.tetra_settings.specs.declared.values.Values.{Values}
 use Rattle.tetra_settings.specs.declared.values.Values.TheVariants.{Between, Directions, Timeslots, Forms}
-use Rattle.tetra_settings.specs.Keys.{row, key_of_text, takes_key}
+use Rattle.tetra_settings.specs.Keys.{keys, row, key_of_text, takes_key}
 use Rattle.tetra_settings.specs.Values.{is_number, value_by, known, direction_by_text, mode_by_text, form_by_text}
-use Rattle.tetra_settings.specs.Words.{is_pair, key_text, value_text, value_under, or_else, given, error_of, reason, reason_by_key, gives_cb, is_timeslot}
+use Rattle.tetra_settings.specs.Words.{is_pair, key_text, value_text, value_under, or_else, given, error_of, reason, reason_by_key, gives_cb, are_timeslots, is_timeslot}
 use Rattle.tetra_settings.specs.Faults.{key_in, IsGiven, Against, IsNoNumber, IsOutside, IsUnknown, IsFirstOf, GivesCb}
 
 -- what passes the test of a search
@@ -33,7 +31,7 @@ found_passes p (y ∷ ys) x e = passed (p y) refl (found_passes p ys x) where
 -- a key has its name
 key_named : (text : List ℕ) (key : Key) → key_of_text text ≡ Some key → (row key).name ≡ text
 unfolding key_of_text
-key_named text key e = (bytes_eq-Decides (row key).name text).0 (found_passes (λ k. bytes_eq (row k).name text) KEYS key e)
+key_named text key e = (bytes_eq-Decides (row key).name text).0 (found_passes (λ k. bytes_eq (row k).name text) keys key e)
 
 -- one word has the key of a name
 has_key : (name word : List ℕ) (key : Key) → key_of_text name ≡ Some key → Decides (is_some (value_under name word)) (key_in word ≡ Some key)
@@ -148,18 +146,17 @@ reason_first command earlier word =
     pair_first command earlier (key_text word) (value_text word) (is_pair word) (key_of_text (key_text word)) (λ key e. some_has_key (key_text word) key e earlier)
 
 -- the test of `cb` at a key
-cb_at_key : (key : Key) (b : Bool) (P : Type 0) → Decides b P → Decides (is_timeslot (Some key) && b) (((row key).values ≡ Timeslots) × P)
-cb_at_key Ts1 b P d = (λ h. (refl, d.0 h), λ h. d.1 h.1)
-cb_at_key Ts2 b P d = (λ h. (refl, d.0 h), λ h. d.1 h.1)
-cb_at_key Ts3 b P d = (λ h. (refl, d.0 h), λ h. d.1 h.1)
-cb_at_key Ts4 b P d = (λ h. (refl, d.0 h), λ h. d.1 h.1)
-cb_at_key key b P d = (λ h. absurd (cc h), λ h. absurd (cc h.0))
+cb_at_values : (values : Values) (b : Bool) (P : Type 0) → Decides b P → Decides (are_timeslots values && b) ((values ≡ Timeslots) × P)
+cb_at_values Timeslots b P d = (λ h. (refl, d.0 h), λ h. d.1 h.1)
+cb_at_values (Between low high) b P d = (λ h. absurd (cc h), λ h. absurd (cc h.0))
+cb_at_values Directions b P d = (λ h. absurd (cc h), λ h. absurd (cc h.0))
+cb_at_values Forms b P d = (λ h. absurd (cc h), λ h. absurd (cc h.0))
 
 cb_at_pair : (p : Bool) (k : Option Key) (b : Bool) (P : Type 0) → Decides b P
     → Decides (p && is_timeslot k && b) (IsSomeAnd (if p then k else None) (λ key. ((row key).values ≡ Timeslots) × P))
 cb_at_pair false k b P d = (λ h. absurd (cc h), λ h. absurd h)
 cb_at_pair true None b P d = (λ h. absurd (cc h), λ h. absurd h)
-cb_at_pair true (Some key) b P d = cb_at_key key b P d
+cb_at_pair true (Some key) b P d = cb_at_values (row key).values b P d
 
 -- the test of `cb` is what it says
 pub gives_cb_decides : (word : List ℕ) → Decides (gives_cb word) (GivesCb word)

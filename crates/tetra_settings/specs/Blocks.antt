@@ -34,12 +34,22 @@ fields_of (Control first second) = unwrap_or first [] ∷ unwrap_or second [] �
 
 -- whether the first and the second subslot are sent
 abbrev pub sends_first : Body → Bool
+sends_first (Full block) = false
+sends_first (Halves first second) = false
+sends_first (Sync sync half) = false
+sends_first (Traffic load) = false
+sends_first (Stolen first load) = false
+sends_first (Both first second load) = false
 sends_first (Control first second) = is_some first
-sends_first body = false
 
 abbrev pub sends_second : Body → Bool
+sends_second (Full block) = false
+sends_second (Halves first second) = false
+sends_second (Sync sync half) = false
+sends_second (Traffic load) = false
+sends_second (Stolen first load) = false
+sends_second (Both first second load) = false
 sends_second (Control first second) = is_some second
-sends_second body = false
 
 -- the bits of the load of a traffic letter: TCH/7.2, TCH/4.8, TCH/2.4, and two frames of speech, one or none
 abbrev pub load_bits : Mode → Letter → ℕ
@@ -48,7 +58,13 @@ load_bits (D48 span) letter = 288
 load_bits (D24 span) letter = 144
 load_bits Speech T = 274
 load_bits Speech P = 137
-load_bits mode letter = 0
+load_bits Speech F = 0
+load_bits Speech H = 0
+load_bits Speech S = 0
+load_bits Speech Q = 0
+load_bits Speech C = 0
+load_bits Sig letter = 0
+load_bits Cb letter = 0
 
 -- the bits of a subslot, where it is sent
 abbrev pub subslot_bits : Bool → ℕ
@@ -88,7 +104,10 @@ HasLengths mode body =
 abbrev pub IsTrafficMode : Mode → Type 0
 IsTrafficMode Sig = ⊥
 IsTrafficMode Cb = ⊥
-IsTrafficMode mode = Unit {0}
+IsTrafficMode D72 = Unit {0}
+IsTrafficMode (D48 span) = Unit {0}
+IsTrafficMode (D24 span) = Unit {0}
+IsTrafficMode Speech = Unit {0}
 
 -- each list has a length that the table gives to its place, and an access field is below 2^14
 pub record AreWellFormed (blocks : SlotBlocks) : Type 0 where
@@ -99,7 +118,8 @@ pub record AreWellFormed (blocks : SlotBlocks) : Type 0 where
 abbrev pub FitsAccess : Dir → Option ℕ → Type 0
 FitsAccess Dl (Some message) = message < 16384
 FitsAccess Ul None = Unit {0}
-FitsAccess dir access = ⊥
+FitsAccess Dl None = ⊥
+FitsAccess Ul (Some message) = ⊥
 
 -- blocks that slot t may carry
 pub record Fits (settings : Settings) (t : ℕ) (blocks : SlotBlocks) : Type 0 where

@@ -32,13 +32,17 @@ key_in word = if is_pair word then key_of_text (key_text word) else None
 -- a number is not so written
 abbrev pub IsNoNumber : Values → List ℕ → Type 0
 IsNoNumber (Between low high) text = is_number text ≡ false
-IsNoNumber values text = ⊥
+IsNoNumber Directions text = ⊥
+IsNoNumber Timeslots text = ⊥
+IsNoNumber Forms text = ⊥
 
 -- a number is outside its range
 abbrev pub IsOutside : Values → List ℕ → Type 0
 IsOutside (Between low high) text =
     (is_number text ≡ true) × ((digits_value 10 text < low) ⊎ (high < digits_value 10 text))
-IsOutside values text = ⊥
+IsOutside Directions text = ⊥
+IsOutside Timeslots text = ⊥
+IsOutside Forms text = ⊥
 
 -- another value is not in its table
 abbrev pub IsUnknown : Values → List ℕ → Type 0
@@ -61,7 +65,9 @@ Against command earlier word BadNumber = IsSomeAnd (key_in word) (λ key. IsNoNu
 Against command earlier word OutOfRange = IsSomeAnd (key_in word) (λ key. IsOutside (row key).values (value_text word))
 Against command earlier word UnknownValue =
     IsSomeAnd (key_in word) (λ key. IsUnknown (row key).values (value_text word))
-Against command earlier word why = ⊥
+Against command earlier word NoCommand = ⊥
+Against command earlier word UnknownCommand = ⊥
+Against command earlier word NotUplink = ⊥
 
 -- a reason other than NotUplink stands against word i
 abbrev pub StandsAlone : List (List ℕ) → ℕ → WordWhy → Type 0

@@ -2,7 +2,6 @@
 use Rattle.std.specs.Prelude.{ℕ, List, [], ◌∷◌, Bool, true, false, codes, find}
 use Rattle.std.specs.Str.{bytes_eq}
 use Rattle.std.specs.declared.option.Option.{Option}
-use Rattle.tetra_settings.specs.declared.keys.TheConstants.{KEYS}
 use Rattle.tetra_settings.specs.declared.keys.Key.{Key}
 use Rattle.tetra_settings.specs.declared.keys.Key.TheVariants.{Dir, Mcc, Mnc, Cc, Ts1, Ts2, Ts3, Ts4, At, Max, Form, Draw, Slots, Damage}
 use Rattle.tetra_settings.specs.declared.keys.Takers.{Takers}
@@ -33,6 +32,14 @@ pub record KeyRow : Type 0 where
   pub default : Value
   pub takers : Takers
 
+-- the keys, in the order of the table
+abbrev pub keys : List Key
+keys =
+    Dir ∷ Mcc ∷ Mnc ∷ Cc
+    ∷ Ts1 ∷ Ts2 ∷ Ts3 ∷ Ts4
+    ∷ At ∷ Max ∷ Form
+    ∷ Draw ∷ Slots ∷ Damage ∷ []
+
 -- the table of keys
 abbrev pub row : Key → KeyRow
 row Dir = record { name = codes "dir"; values = Directions; default = Direction Dl; takers = All }
@@ -50,16 +57,20 @@ row Draw = record { name = codes "draw"; values = Between 0 18446744073709551615
 row Slots = record { name = codes "slots"; values = Between 1 1000000; default = Number 1; takers = Makers }
 row Damage = record { name = codes "damage"; values = Between 0 510; default = Number 0; takers = TrialAlone }
 
+-- one answer for each command: encode, decode, audit, gen and trial
+abbrev pub by_command : {X : Type 0} → X → X → X → X → X → Command → X
+by_command encode decode audit gen trial Encode = encode
+by_command encode decode audit gen trial Decode = decode
+by_command encode decode audit gen trial Audit = audit
+by_command encode decode audit gen trial Gen = gen
+by_command encode decode audit gen trial Trial = trial
+
 abbrev pub is_taker : Takers → Command → Bool
 is_taker All command = true
-is_taker Readers Encode = true
-is_taker Readers Decode = true
-is_taker Readers Audit = true
-is_taker DecodeAlone Decode = true
-is_taker Makers Gen = true
-is_taker Makers Trial = true
-is_taker TrialAlone Trial = true
-is_taker _ command = false
+is_taker Readers command = by_command true true true false false command
+is_taker DecodeAlone command = by_command false true false false false command
+is_taker Makers command = by_command false false false true true command
+is_taker TrialAlone command = by_command false false false false true command
 
 -- whether a command takes a key
 abbrev pub takes_key : Command → Key → Bool
@@ -67,4 +78,4 @@ takes_key command key = is_taker (row key).takers command
 
 -- the key of this name
 unfoldable pub key_of_text : List ℕ → Option Key
-key_of_text text = find (λ key. bytes_eq (row key).name text) KEYS
+key_of_text text = find (λ key. bytes_eq (row key).name text) keys

@@ -5,7 +5,7 @@ use Rattle.std.specs.declared.option.Option.{Option}
 use Rattle.tetra_settings.specs.declared.types.Dir.{Dir}
 use Rattle.tetra_settings.specs.declared.types.Dir.TheVariants.{Dl, Ul}
 use Rattle.tetra_settings.specs.declared.types.Mode.{Mode}
-use Rattle.tetra_settings.specs.declared.types.Mode.TheVariants.{Sig, Cb}
+use Rattle.tetra_settings.specs.declared.types.Mode.TheVariants.{Sig, Cb, D72, D48, D24, Speech}
 use Rattle.tetra_settings.specs.declared.types.Settings.{Settings}
 use Rattle.tetra_settings.specs.declared.slots.Letter.{Letter}
 use Rattle.tetra_settings.specs.declared.slots.Letter.TheVariants.{F, H, S, T, P, Q, C}
@@ -29,11 +29,18 @@ multiframe_of at t = 1 + place_of at t / 72
 unfoldable pub mode_of : Settings → ℕ → Mode
 mode_of settings t = slice_index_or settings.modes (timeslot_of settings.at t - 1) Sig
 
--- what a slot of a timeslot carries in a frame: frame 18 of a traffic timeslot is signalling
+-- what a slot of a traffic timeslot carries in a frame: frame 18 is signalling
+abbrev pub traffic_in : ℕ → SlotUse
+traffic_in frame = if nat_eq frame 18 then Signalling else Traffic
+
+-- what a slot of a timeslot carries in a frame
 abbrev pub use_in : Mode → ℕ → SlotUse
 use_in Sig frame = Signalling
 use_in Cb frame = Control
-use_in mode frame = if nat_eq frame 18 then Signalling else Traffic
+use_in D72 frame = traffic_in frame
+use_in (D48 span) frame = traffic_in frame
+use_in (D24 span) frame = traffic_in frame
+use_in Speech frame = traffic_in frame
 
 -- what slot t carries
 unfoldable pub use_of : Settings → ℕ → SlotUse
@@ -41,8 +48,10 @@ use_of settings t = use_in (mode_of settings t) (frame_of settings.at t)
 
 -- a direction has the use: control bursts are uplink only
 abbrev pub HasUse : Dir → SlotUse → Type 0
+HasUse Dl Signalling = Unit {0}
 HasUse Dl Control = ⊥
-HasUse dir slot = Unit {0}
+HasUse Dl Traffic = Unit {0}
+HasUse Ul slot = Unit {0}
 
 -- the byte of a letter
 abbrev pub byte_of : Letter → ℕ

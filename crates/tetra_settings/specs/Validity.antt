@@ -2,15 +2,20 @@
 use Rattle.std.specs.Prelude.{ℕ, ◌≤◌, slice_index_or}
 use Rattle.tetra_scramble.specs.Colour.{IsColour}
 use Rattle.tetra_settings.specs.declared.types.Dir.{Dir}
-use Rattle.tetra_settings.specs.declared.types.Dir.TheVariants.{Dl}
+use Rattle.tetra_settings.specs.declared.types.Dir.TheVariants.{Dl, Ul}
 use Rattle.tetra_settings.specs.declared.types.Mode.{Mode}
-use Rattle.tetra_settings.specs.declared.types.Mode.TheVariants.{Sig, Cb}
+use Rattle.tetra_settings.specs.declared.types.Mode.TheVariants.{Sig, Cb, D72, D48, D24, Speech}
 use Rattle.tetra_settings.specs.declared.types.Settings.{Settings}
 
 -- a direction has the mode: control bursts are uplink only
 abbrev pub HasMode : Dir → Mode → Type 0
+HasMode Dl Sig = Unit {0}
 HasMode Dl Cb = ⊥
-HasMode dir mode = Unit {0}
+HasMode Dl D72 = Unit {0}
+HasMode Dl (D48 span) = Unit {0}
+HasMode Dl (D24 span) = Unit {0}
+HasMode Dl Speech = Unit {0}
+HasMode Ul mode = Unit {0}
 
 -- the colour and each number are in their ranges; every u64 may be drawn from
 pub record IsInRanges (settings : Settings) : Type 0 where

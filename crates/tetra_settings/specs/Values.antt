@@ -71,24 +71,34 @@ value_by Directions text = known (option_map (λ dir. Direction dir) (direction_
 value_by Timeslots text = known (option_map (λ mode. Timeslot mode) (mode_by_text text))
 value_by Forms text = known (option_map (λ form. Shape form) (form_by_text text))
 
--- the number, direction, mode or form that a value is
+-- the number, direction, mode or form that a value is; the default of its kind where it is of another
 abbrev pub number_in : Value → ℕ
 number_in (Number n) = n
-number_in value = 0
+number_in (Direction dir) = 0
+number_in (Timeslot mode) = 0
+number_in (Shape form) = 0
 
 abbrev pub direction_in : Value → Dir
 direction_in (Direction dir) = dir
-direction_in value = Dl
+direction_in (Number n) = Dl
+direction_in (Timeslot mode) = Dl
+direction_in (Shape form) = Dl
 
 abbrev pub mode_in : Value → Mode
 mode_in (Timeslot mode) = mode
-mode_in value = Sig
+mode_in (Number n) = Sig
+mode_in (Direction dir) = Sig
+mode_in (Shape form) = Sig
 
 abbrev pub form_in : Value → Form
 form_in (Shape form) = form
-form_in value = Plain
+form_in (Number n) = Plain
+form_in (Direction dir) = Plain
+form_in (Timeslot mode) = Plain
 
 -- a number lies in its range
 abbrev pub IsAmong : Values → Value → Type 0
 IsAmong (Between low high) value = (low ≤ number_in value) × (number_in value ≤ high)
-IsAmong values value = Unit {0}
+IsAmong Directions value = Unit {0}
+IsAmong Timeslots value = Unit {0}
+IsAmong Forms value = Unit {0}

@@ -14,8 +14,10 @@ use Rattle.tetra_settings.specs.declared.types.WordWhy.TheVariants.{NotPair, Unk
 use Rattle.tetra_settings.specs.declared.types.WordFault.{WordFault}
 use Rattle.tetra_settings.specs.declared.types.Settings.{Settings}
 use Rattle.tetra_settings.specs.declared.types.Dir.{Dir}
-use Rattle.tetra_settings.specs.declared.types.Dir.TheVariants.{Dl}
+use Rattle.tetra_settings.specs.declared.types.Dir.TheVariants.{Dl, Ul}
 use Rattle.tetra_settings.specs.declared.values.Value.{Value}
+use Rattle.tetra_settings.specs.declared.values.Values.{Values}
+use Rattle.tetra_settings.specs.declared.values.Values.TheVariants.{Between, Directions, Timeslots, Forms}
 use Rattle.tetra_settings.specs.Keys.{row, key_of_text, command_of_text, takes_key}
 use Rattle.tetra_settings.specs.Values.{value_by, number_in, direction_in, mode_in, form_in}
 
@@ -76,12 +78,16 @@ first_fault command earlier [] = None
 first_fault command earlier (word ∷ words) =
     or_else (fault_at (length earlier) (reason command earlier word)) (first_fault command (earlier ++ word ∷ []) words)
 
+-- whether these are the values of a timeslot
+abbrev pub are_timeslots : Values → Bool
+are_timeslots (Between low high) = false
+are_timeslots Directions = false
+are_timeslots Timeslots = true
+are_timeslots Forms = false
+
 abbrev pub is_timeslot : Option Key → Bool
-is_timeslot (Some Ts1) = true
-is_timeslot (Some Ts2) = true
-is_timeslot (Some Ts3) = true
-is_timeslot (Some Ts4) = true
-is_timeslot key = false
+is_timeslot None = false
+is_timeslot (Some key) = are_timeslots (row key).values
 
 -- whether a word gives a timeslot `cb`
 abbrev pub gives_cb : List ℕ → Bool
@@ -125,7 +131,8 @@ settings_of words = record {
 -- on the downlink no word gives `cb`
 abbrev pub meaning_by_dir : Command → Settings → Dir → Option WordFault → Result (Command × Settings) WordFault
 meaning_by_dir command settings Dl (Some fault) = Err fault
-meaning_by_dir command settings dir cb = Ok (command, settings)
+meaning_by_dir command settings Dl None = Ok (command, settings)
+meaning_by_dir command settings Ul cb = Ok (command, settings)
 
 abbrev pub meaning_by_fault : Command → List (List ℕ) → Option WordFault → Result (Command × Settings) WordFault
 meaning_by_fault command words (Some fault) = Err fault

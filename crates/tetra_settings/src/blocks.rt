@@ -99,8 +99,13 @@ impl Body {
         ensures second { result.1 ≡ sends_second self.now }
     {
         match self {
+            Body::Full { .. }
+            | Body::Halves { .. }
+            | Body::Sync { .. }
+            | Body::Traffic { .. }
+            | Body::Stolen { .. }
+            | Body::Both { .. } => (false, false),
             Body::Control { first, second } => (first.is_some(), second.is_some()),
-            _ => (false, false),
         }
     }
 
@@ -138,13 +143,16 @@ impl Body {
 pub fn load_bits(mode: Mode, letter: Letter) -> usize
     ensures { result ≡ load_bits mode letter }
 {
-    match (mode, letter) {
-        (Mode::D72, _) => 432,
-        (Mode::D48(_), _) => 288,
-        (Mode::D24(_), _) => 144,
-        (Mode::Speech, Letter::T) => 274,
-        (Mode::Speech, Letter::P) => 137,
-        _ => 0,
+    match mode {
+        Mode::D72 => 432,
+        Mode::D48(_) => 288,
+        Mode::D24(_) => 144,
+        Mode::Speech => match letter {
+            Letter::T => 274,
+            Letter::P => 137,
+            Letter::F | Letter::H | Letter::S | Letter::Q | Letter::C => 0,
+        },
+        Mode::Sig | Mode::Cb => 0,
     }
 }
 
@@ -187,8 +195,8 @@ fn fits_direction(dir: Dir, access: Option<u16>) -> bool
 {
     match (dir, access) {
         (Dir::Dl, Some(message)) => message < 16_384,
-        (Dir::Ul, None) => true,
-        _ => false,
+        (Dir::Dl, None) => false,
+        (Dir::Ul, access) => access.is_none(),
     }
 }
 

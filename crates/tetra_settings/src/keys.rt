@@ -143,11 +143,15 @@ pub fn key_of(text: &str) -> Option<Key>
 pub fn takes(command: Command, key: Key) -> bool
     ensures { result ≡ takes_key command key }
 {
+    let reads = match command {
+        Command::Encode | Command::Decode | Command::Audit => true,
+        Command::Gen | Command::Trial => false,
+    };
     match row_of(key).takers {
         Takers::All => true,
-        Takers::Readers => matches!(command, Command::Encode | Command::Decode | Command::Audit),
+        Takers::Readers => reads,
         Takers::Decode => command == Command::Decode,
-        Takers::Makers => matches!(command, Command::Gen | Command::Trial),
+        Takers::Makers => !reads,
         Takers::Trial => command == Command::Trial,
     }
 }

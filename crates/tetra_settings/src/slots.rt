@@ -113,8 +113,13 @@ pub fn slot_use(settings: &Settings, t: u32) -> SlotUse
     match mode_at(settings, t) {
         Mode::Sig => SlotUse::Signalling,
         Mode::Cb => SlotUse::Control,
-        _ if frame == 18 => SlotUse::Signalling,
-        _ => SlotUse::Traffic,
+        Mode::D72 | Mode::D48(_) | Mode::D24(_) | Mode::Speech => {
+            if frame == 18 {
+                SlotUse::Signalling
+            } else {
+                SlotUse::Traffic
+            }
+        }
     }
 }
 
@@ -141,6 +146,6 @@ pub fn letters(dir: Dir, slot: SlotUse) -> &'static [Letter]
         (Dir::Ul, SlotUse::Signalling) => &[Letter::F],
         (Dir::Ul, SlotUse::Control) => &[Letter::C],
         (Dir::Dl, SlotUse::Control) => &[],
-        (_, SlotUse::Traffic) => &[Letter::T, Letter::P, Letter::Q],
+        (Dir::Dl | Dir::Ul, SlotUse::Traffic) => &[Letter::T, Letter::P, Letter::Q],
     }
 }

@@ -1,7 +1,7 @@
 // The words of a command line: a command, and pairs `key=value`.
 ghost use Rattle.std.specs.Prelude.{IfOk, take, drop, length, ◌≡◌, ◌≤◌, map, is_some, string_bytes, IfSome};
 ghost use Rattle.std.specs.Option.{option_map};
-ghost use Rattle.tetra_settings.specs.Words.{texts, value_under, given, reason, first_fault, gives_cb, first_cb, setting_of, settings_of, meaning};
+ghost use Rattle.tetra_settings.specs.Words.{texts, value_under, given, reason, first_fault, are_timeslots, gives_cb, first_cb, setting_of, settings_of, meaning};
 ghost use Rattle.tetra_settings.specs.Faults.{NamesFirst};
 ghost use Rattle.tetra_settings.specs.Validity.{IsValid, IsInRanges};
 ghost use Rattle.tetra_settings.specs.Keys.{row};
@@ -9,7 +9,7 @@ ghost use Rattle.tetra_settings.specs.Values.{IsAmong, number_in, direction_in, 
 
 use crate::keys::{Key, command_of, key_of, row_of, takes};
 use crate::types::{Command, Dir, Form, Mode, Settings, WordFault, WordWhy};
-use crate::values::{Value, value_of};
+use crate::values::{Value, Values, value_of};
 use tetra_rm::own_rows;
 use tetra_scramble::Colour;
 
@@ -68,6 +68,16 @@ fn find_fault(command: Command, words: &[String]) -> Option<WordFault>
     None
 }
 
+/// Whether these are the values of a timeslot.
+fn are_timeslots(values: Values) -> bool
+    ensures { result ≡ are_timeslots values }
+{
+    match values {
+        Values::Timeslots => true,
+        Values::Between(..) | Values::Directions | Values::Forms => false,
+    }
+}
+
 /// Whether a word gives a timeslot `cb`.
 fn is_cb(word: &str) -> bool
     ensures { result ≡ gives_cb word.now }
@@ -76,8 +86,8 @@ fn is_cb(word: &str) -> bool
         return false;
     };
     match key_of(name) {
-        Some(Key::Ts1 | Key::Ts2 | Key::Ts3 | Key::Ts4) => value == "cb",
-        _ => false,
+        Some(key) => are_timeslots(row_of(key).values) && value == "cb",
+        None => false,
     }
 }
 
@@ -115,7 +125,7 @@ fn number(words: &[String], key: Key) -> u64
 {
     match setting(words, key) {
         Value::Number(n) => n,
-        _ => 0,
+        Value::Direction(_) | Value::Timeslot(_) | Value::Shape(_) => 0,
     }
 }
 
@@ -125,7 +135,7 @@ fn mode(words: &[String], key: Key) -> Mode
 {
     match setting(words, key) {
         Value::Timeslot(mode) => mode,
-        _ => Mode::Sig,
+        Value::Number(_) | Value::Direction(_) | Value::Shape(_) => Mode::Sig,
     }
 }
 
@@ -134,7 +144,7 @@ fn direction(words: &[String]) -> Dir
 {
     match setting(words, Key::Dir) {
         Value::Direction(dir) => dir,
-        _ => Dir::Dl,
+        Value::Number(_) | Value::Timeslot(_) | Value::Shape(_) => Dir::Dl,
     }
 }
 
@@ -143,7 +153,7 @@ fn form(words: &[String]) -> Form
 {
     match setting(words, Key::Form) {
         Value::Shape(form) => form,
-        _ => Form::Plain,
+        Value::Number(_) | Value::Direction(_) | Value::Timeslot(_) => Form::Plain,
     }
 }
 

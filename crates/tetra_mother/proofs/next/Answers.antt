@@ -1,5 +1,5 @@
 use Rattle.std.proofs.Common.{◌∙◌, rules}
-use Rattle.tetra_mother.specs.States.{next_is_state}
+use Rattle.tetra_mother.specs.lemmas.States.{next_is_state}
 use Rattle.tetra_mother.specs.Mother.{next_state}
 use Rattle.tetra_mother.proofs.next.Goals as goal
 use Rattle.tetra_mother.proofs.next.Goals.{then-bit, else-bit}

@@ -1,7 +1,7 @@
 use Rattle.std.proofs.Common.{◌≡◌, ◌≢◌, ◌<◌, ◌+◌, length, arith, get_or-set_other, get_or-set_same, below_more, rules}
 use Rattle.std.proofs.Common.{◌∙◌, ap, ◌-◌}
 use Rattle.tetra_mother.specs.Mother.{edge}
-use Rattle.tetra_mother.specs.States.{edge_is_output}
+use Rattle.tetra_mother.specs.lemmas.States.{edge_is_output}
 use Rattle.tetra_mother.proofs.outs.Goals as goal
 
 pub loop-i-preserved : goal.loop-i-preserved

@@ -1,11 +1,11 @@
 use Rattle.std.proofs.Common.{arith, ap, sym, ◌∙◌}
 use Rattle.tetra_mother.specs.Mother.{next_state}
-use Rattle.tetra_puncture.proofs.Steps.{state_passed_first, state_passed_more}
-use Rattle.tetra_puncture.proofs.Checking.{checked_none, checked_more}
+use Rattle.tetra_puncture.specs.lemmas.Steps.{state_passed_first, state_passed_more}
+use Rattle.tetra_puncture.specs.lemmas.Checking.{checked_none, checked_more}
 use Rattle.tetra_puncture.specs.Trellis.{bit_taken}
 use Rattle.tetra_puncture.specs.Certified.{Fits}
 use Rattle.tetra_cert.specs.Checked.{IsRight, IsSound, IsFirstOfStates}
-use Rattle.tetra_cert.proofs.Places.{right_is_verdict}
+use Rattle.tetra_cert.specs.lemmas.Places.{right_is_verdict}
 use Rattle.tetra_cert.proofs.Verdicts.{accepted, refused, not_accepted, certified}
 use Rattle.tetra_cert.proofs.checking.check.Goals as goal
 

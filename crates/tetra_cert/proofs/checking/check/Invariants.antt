@@ -1,6 +1,6 @@
 use Rattle.std.proofs.Common.{◌≡◌, ◌<◌}
 use Rattle.tetra_puncture.specs.Trellis.{state_passed}
-use Rattle.tetra_puncture.proofs.Checking.{CheckedTo}
+use Rattle.tetra_puncture.specs.lemmas.Checking.{CheckedTo}
 use Rattle.tetra_cert.proofs.checking.check.Given as goal
 
 abbrev pub invariant-loop-t : goal.invariant-loop-t

@@ -1,5 +1,5 @@
 use Rattle.std.proofs.Common.{arith}
-use Rattle.tetra_puncture.proofs.Checking.{row_none, row_more}
+use Rattle.tetra_puncture.specs.lemmas.Checking.{row_none, row_more}
 use Rattle.tetra_cert.specs.Checked.{IsFirstOfRules, IsFirstOfStates}
 use Rattle.tetra_cert.proofs.rules.first_of_states.Goals as goal
 

@@ -1,4 +1,4 @@
-use Rattle.tetra_puncture.proofs.Checking.{CheckedRow}
+use Rattle.tetra_puncture.specs.lemmas.Checking.{CheckedRow}
 use Rattle.tetra_cert.proofs.rules.first_of_states.Given as goal
 
 abbrev pub invariant-loop-state : goal.invariant-loop-state

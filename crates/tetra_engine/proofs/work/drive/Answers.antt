@@ -1,9 +1,10 @@
-use Rattle.std.proofs.Common.{rules, ◌≡◌, arith, [], ◌∷◌, ◌++◌, subst, refl, sym, ◌∙◌, OnOk, OnErr, Ok, Err}
+use Rattle.std.proofs.Common.{rules, ap, inl, ◌≡◌, arith, [], ◌∷◌, ◌++◌, subst, refl, sym, ◌∙◌, OnOk, OnErr, Ok, Err}
 use Rattle.std.specs.Io.KnownBytes.{Appends}
 use Rattle.tetra_io.specs.Filling.{AddsFront}
-use Rattle.tetra_engine.specs.Working.{ReadGives}
-use Rattle.tetra_engine.specs.Outcomes.{EndsBy, TookBefore}
+use Rattle.tetra_engine.specs.Working.{ReadGives, ends_by_stop}
+use Rattle.tetra_engine.specs.Outcomes.{EndsBy, TookBefore, EndsMet}
 use Rattle.tetra_engine.proofs.Runs.{ran_on, stopped, passed, write_front, all_written, some_written}
+use Rattle.tetra_engine.proofs.MeetsEnd.{met_by_stop}
 use Rattle.tetra_engine.proofs.work.drive.Goals as goal
 
 pub loop-slots-preserved : goal.loop-slots-preserved
@@ -21,6 +22,7 @@ loop-slots-preserved g c =
           going.ran c.loop-slots-test.true fits more (all_written c.write.result _ _ _ _ wrote (search rules) refl);
       src_later = search rules;
       sink_later = search rules;
+      not_ended = c.in_default.ensures.ended ∙ going.not_ended;
     }
 
 pub returns-then-is_err-clause-ends : goal.returns-then-is_err-clause-ends
@@ -55,3 +57,18 @@ returns-clause-ends g c =
     let is = subst (λ s. c.end-2.result ≡ (g.W.Work.shape s).done going.xs) going.settings (c.end-2.ensures.status going.xs going.stands) in
     subst (λ e. EndsBy e.status (g.W.Work.shape settings) c.args.max rest0 (g.S.Source.rest c.past_last.new.src) (TookBefore e.status taken0 (g.K.Sink.taken c.loop-slots.sink)) e) (sym c.ended-2.ensures)
     (passed (g.W.Work.shape settings) c.args.max c.loop-slots.slots going.xs c.past_last.result c.end-2.result _ _ _ _ _ (g.met.W.Work.some settings) going.ran c.loop-slots-test.false c.past_last.ensures.gives is c.end-2.ensures.quiet)
+
+pub returns-then-is_err-clause-met : goal.returns-then-is_err-clause-met
+returns-then-is_err-clause-met g c = inl (c.in_default.ensures.ended ∙ c.loop-slots.invariant.not_ended)
+
+pub returns-in-Err-clause-met : goal.returns-in-Err-clause-met
+returns-in-Err-clause-met g c =
+    let now = c.in-Err.ensures.ended ∙ ap (ends_by_stop c.in-Err.stop) c.loop-slots.invariant.not_ended in
+    subst (λ e. EndsMet e.status (g.S.Source.ends c.args.src.now) (g.S.Source.ends c.read.new.src)) (sym c.ended.ensures)
+    (met_by_stop c.in-Err.stop c.end.result c.loop-slots.slots _ _ now c.end.ensures.quiet)
+
+pub returns-clause-met : goal.returns-clause-met
+returns-clause-met g c =
+    let now = c.past_last.ensures.ended ∙ ap (ends_by_stop c.past_last.result) c.loop-slots.invariant.not_ended in
+    subst (λ e. EndsMet e.status (g.S.Source.ends c.args.src.now) (g.S.Source.ends c.past_last.new.src)) (sym c.ended-2.ensures)
+    (met_by_stop c.past_last.result c.end-2.result c.loop-slots.slots _ _ now c.end-2.ensures.quiet)

@@ -1,4 +1,4 @@
-use Rattle.tetra_puncture.proofs.Certificates.{accepted_is_certified}
+use Rattle.tetra_puncture.specs.lemmas.Certificates.{accepted_is_certified}
 use Rattle.tetra_puncture.proofs.laws.accepted_is_certified.Goals as goal
 
 pub returns : goal.returns

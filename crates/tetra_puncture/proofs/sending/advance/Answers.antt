@@ -1,7 +1,7 @@
 use Rattle.std.proofs.Common.{◌≡◌, ◌∙◌, ap, arith, rules}
 use Rattle.tetra_puncture.specs.Plan.{tailed}
 use Rattle.tetra_mother.specs.Mother.{state_before}
-use Rattle.tetra_mother.specs.States.{next_is_state}
+use Rattle.tetra_mother.specs.lemmas.States.{next_is_state}
 use Rattle.tetra_puncture.proofs.sending.advance.Goals as goal
 
 pub loop-step-preserved : goal.loop-step-preserved

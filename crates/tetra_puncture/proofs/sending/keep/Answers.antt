@@ -1,8 +1,8 @@
 use Rattle.std.proofs.Common.{rules, ◌≡◌, ◌≤◌, ◌+◌, length, arith, ap, sym, ◌∙◌}
 use Rattle.tetra_bits.specs.Numbered.{numbered, numbered_none, numbered_push, length-numbered}
-use Rattle.tetra_mother.specs.States.{state_first}
+use Rattle.tetra_mother.specs.lemmas.States.{state_first}
 use Rattle.tetra_puncture.specs.Plan.{tailed, sent_bit, word}
-use Rattle.tetra_puncture.proofs.Walk.{ahead_from, walk_bit}
+use Rattle.tetra_puncture.specs.lemmas.Walk.{ahead_from, walk_bit}
 use Rattle.tetra_puncture.proofs.sending.keep.Goals as goal
 
 pub loop-j-init : goal.loop-j-init

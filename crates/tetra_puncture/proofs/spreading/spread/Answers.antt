@@ -1,7 +1,7 @@
 use Rattle.std.proofs.Common.{◌≡◌, ◌*◌, ℕ, arith, subst, FitsSigned, w16, rules}
 use Rattle.std.proofs.lemmas.Int.{to_z-of_z}
-use Rattle.tetra_puncture.proofs.Front.{IsFront, front_more, spread_from}
-use Rattle.tetra_puncture.proofs.Values.{spread_is_values}
+use Rattle.tetra_puncture.specs.lemmas.Front.{IsFront, front_more, spread_from}
+use Rattle.tetra_puncture.specs.lemmas.Values.{spread_is_values}
 use Rattle.tetra_puncture.proofs.spreading.spread.Goals as goal
 
 pub loop-j-preserved : goal.loop-j-preserved

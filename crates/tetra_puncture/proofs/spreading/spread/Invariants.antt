@@ -1,4 +1,4 @@
-use Rattle.tetra_puncture.proofs.Front.{IsFront}
+use Rattle.tetra_puncture.specs.lemmas.Front.{IsFront}
 use Rattle.tetra_puncture.proofs.spreading.spread.Given as goal
 
 abbrev pub invariant-loop-j : goal.invariant-loop-j

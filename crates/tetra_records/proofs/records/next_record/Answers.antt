@@ -6,7 +6,7 @@ use Rattle.tetra_settings.specs.declared.slots.Letter.{Letter}
 use Rattle.tetra_settings.specs.Slots.{is_allowed}
 use Rattle.tetra_records.specs.declared.parsing.Layout.{Layout}
 use Rattle.tetra_records.proofs.Filled.{rest_size}
-use Rattle.tetra_records.proofs.Given.{one_of, unknown_from, wrong_from, failed_from, blocks_from, clean_from, padded_from, pad_from}
+use Rattle.tetra_records.proofs.Given.{one_of, unknown_from, wrong_from, failed_from, blocks_from, padded_from}
 use Rattle.tetra_records.proofs.records.next_record.Goals as goal
 
 abbrev layout_at : Dir → Letter → Mode → Layout
@@ -36,22 +36,10 @@ pub returns-in-Ok-parse-clause-gives : goal.returns-in-Ok-parse-clause-gives
 returns-in-Ok-parse-clause-gives g c =
     blocks_from c.args.settings.now c.args.t (get_or c.fill.new.buf 0 0) c.in-Some.letter (sym c.from_byte.ensures ∙ c.in-Some.is) (sym (c.allows.ensures ∙ ap (λ u. is_allowed c.args.settings.now.dir u c.in-Some.letter) c.slot_use.ensures.slot) ∙ c.if-not-allows.false)
     (layout_at c.args.settings.now.dir c.in-Some.letter c.mode_at.result) (g.S.Source.rest c.args.src.now) (g.S.Source.rest c.fill.new.src) (g.S.Source.rest c.read_behind.new.src) c.read_behind.new.buf c.in-Ok.len (ap (layout_at c.args.settings.now.dir c.in-Some.letter) c.mode_at.ensures.mode) c.read_behind.array_long
-    (subst (Consumes (g.S.Source.rest c.args.src.now) (g.S.Source.rest c.fill.new.src)) (one_of c.fill.new.buf (search rules)) c.in-Whole.ensures.bytes) c.in-Ok.ensures.gives c.in-Ok-parse.found c.in-Ok-parse.ensures.made.0 c.in-Ok-parse.ensures.made.1
-
-pub returns-in-Ok-parse-clause-pads : goal.returns-in-Ok-parse-clause-pads
-returns-in-Ok-parse-clause-pads g c =
-    clean_from c.args.settings.now c.args.t (get_or c.fill.new.buf 0 0) c.in-Some.letter (sym c.from_byte.ensures ∙ c.in-Some.is) (sym (c.allows.ensures ∙ ap (λ u. is_allowed c.args.settings.now.dir u c.in-Some.letter) c.slot_use.ensures.slot) ∙ c.if-not-allows.false)
-    (layout_at c.args.settings.now.dir c.in-Some.letter c.mode_at.result) (g.S.Source.rest c.args.src.now) (g.S.Source.rest c.fill.new.src) (g.S.Source.rest c.read_behind.new.src) c.read_behind.new.buf c.in-Ok.len (ap (layout_at c.args.settings.now.dir c.in-Some.letter) c.mode_at.ensures.mode) c.read_behind.array_long
-    (subst (Consumes (g.S.Source.rest c.args.src.now) (g.S.Source.rest c.fill.new.src)) (one_of c.fill.new.buf (search rules)) c.in-Whole.ensures.bytes) c.in-Ok.ensures.gives c.in-Ok-parse.ensures.pad
+    (subst (Consumes (g.S.Source.rest c.args.src.now) (g.S.Source.rest c.fill.new.src)) (one_of c.fill.new.buf (search rules)) c.in-Whole.ensures.bytes) c.in-Ok.ensures.gives c.in-Ok-parse.found c.in-Ok-parse.ensures.made.0 c.in-Ok-parse.ensures.made.1 c.in-Ok-parse.ensures.pad
 
 pub returns-in-Err-parse-clause-gives : goal.returns-in-Err-parse-clause-gives
 returns-in-Err-parse-clause-gives g c =
     padded_from c.args.settings.now c.args.t (get_or c.fill.new.buf 0 0) c.in-Some.letter (sym c.from_byte.ensures ∙ c.in-Some.is) (sym (c.allows.ensures ∙ ap (λ u. is_allowed c.args.settings.now.dir u c.in-Some.letter) c.slot_use.ensures.slot) ∙ c.if-not-allows.false)
-    (layout_at c.args.settings.now.dir c.in-Some.letter c.mode_at.result) (g.S.Source.rest c.args.src.now) (g.S.Source.rest c.fill.new.src) (g.S.Source.rest c.read_behind.new.src) c.read_behind.new.buf c.in-Ok.len (ap (layout_at c.args.settings.now.dir c.in-Some.letter) c.mode_at.ensures.mode) c.read_behind.array_long
-    (subst (Consumes (g.S.Source.rest c.args.src.now) (g.S.Source.rest c.fill.new.src)) (one_of c.fill.new.buf (search rules)) c.in-Whole.ensures.bytes) c.in-Ok.ensures.gives c.in-Err-parse.ensures.pad
-
-pub returns-in-Err-parse-clause-pads : goal.returns-in-Err-parse-clause-pads
-returns-in-Err-parse-clause-pads g c =
-    pad_from c.args.settings.now c.args.t (get_or c.fill.new.buf 0 0) c.in-Some.letter (sym c.from_byte.ensures ∙ c.in-Some.is) (sym (c.allows.ensures ∙ ap (λ u. is_allowed c.args.settings.now.dir u c.in-Some.letter) c.slot_use.ensures.slot) ∙ c.if-not-allows.false)
     (layout_at c.args.settings.now.dir c.in-Some.letter c.mode_at.result) (g.S.Source.rest c.args.src.now) (g.S.Source.rest c.fill.new.src) (g.S.Source.rest c.read_behind.new.src) c.read_behind.new.buf c.in-Ok.len (ap (layout_at c.args.settings.now.dir c.in-Some.letter) c.mode_at.ensures.mode) c.read_behind.array_long
     (subst (Consumes (g.S.Source.rest c.args.src.now) (g.S.Source.rest c.fill.new.src)) (one_of c.fill.new.buf (search rules)) c.in-Whole.ensures.bytes) c.in-Ok.ensures.gives c.in-Err-parse.ensures.pad

@@ -1,7 +1,7 @@
 use Rattle.std.proofs.Common.{◌≡◌, not, eqb, false, refl}
 use Rattle.tetra_bits.specs.Readings.{entry}
 use Rattle.tetra_puncture.specs.Trellis.{over_branch}
-use Rattle.tetra_puncture.proofs.Rows.{trace_start, trace_step}
+use Rattle.tetra_puncture.specs.lemmas.Rows.{trace_start, trace_step}
 use Rattle.tetra_trellis.proofs.tracing.trace.Goals as goal
 
 pub loop-t-init : goal.loop-t-init

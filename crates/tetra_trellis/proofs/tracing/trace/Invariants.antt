@@ -1,4 +1,4 @@
-use Rattle.tetra_puncture.proofs.Rows.{TracedTo}
+use Rattle.tetra_puncture.specs.lemmas.Rows.{TracedTo}
 use Rattle.tetra_trellis.proofs.tracing.trace.Given as goal
 
 abbrev pub invariant-loop-t : goal.invariant-loop-t

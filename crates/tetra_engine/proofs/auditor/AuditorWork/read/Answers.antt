@@ -1,70 +1,63 @@
-use Rattle.std.proofs.Common.{rules, arith, ◌≡◌, ◌∙◌, ap, sym, subst, true, false, length, ◌++◌, ◌∷◌, []}
-use Rattle.tetra_io.specs.Filling.{TakesFewer}
+use Rattle.std.proofs.Common.{rules, arith, ◌≡◌, ◌∙◌, ap, sym, subst, length, ◌++◌, ◌∷◌, []}
 use Rattle.std.proofs.KnownBytes.{Consumes-trans}
-use Rattle.tetra_session.specs.Heard.{ReceiverStands, slot_letter, slot_front}
-use Rattle.tetra_session.specs.Built.{is_built_letter}
-use Rattle.tetra_audit.specs.Fields.{claim_length}
-use Rattle.tetra_engine.specs.Framing.{is_built_slot}
-use Rattle.tetra_engine.specs.Auditing.{auditing, slots_of}
+use Rattle.tetra_io.specs.Filling.{TakesFewer}
+use Rattle.tetra_session.specs.Heard.{ReceiverStands, slot_front}
+use Rattle.tetra_engine.specs.Auditing.{auditing, slots_of, front_at, refused_slots}
+use Rattle.tetra_engine.specs.Intake.{IntakeStands}
+use Rattle.tetra_engine.specs.Refusals.{Counts}
 use Rattle.tetra_engine.proofs.Fronts.{ended_behind, fault_behind}
 use Rattle.tetra_engine.proofs.Framed.{take_front}
-use Rattle.tetra_engine.proofs.Audited.{unbuilt_claimed, letter_same, short_claim, front_audited, refused_few, counts_number}
+use Rattle.tetra_engine.proofs.Audited.{auditing_stopped, slot_at, short_claim, front_audited, refused_few, counts_number}
 use Rattle.tetra_engine.proofs.auditor.AuditorWork.read.Goals as goal
 
-pub returns-then-not-is_built_letter-clause-gives : goal.returns-then-not-is_built_letter-clause-gives
-returns-then-not-is_built_letter-clause-gives g c xs stands slot =
-    let settings = c.args.self.now.settings in
-    let letter = c.letter.ensures ∙ letter_same settings xs c.args.self.now.receiver c.read_values.new.soft stands.receiver ∙ ap (slot_letter settings (length xs)) c.read_values.ensures.values in
-    let unbuilt : is_built_slot settings (length xs) c.fill.new.buf ≡ false = ap is_built_letter (sym letter) ∙ sym c.is_built_letter.ensures ∙ search rules in
-    unbuilt_claimed settings xs c.fill.new.buf _ _ (search rules) unbuilt c.in-Whole.ensures.bytes
+pub returns-in-Err-clause-gives : goal.returns-in-Err-clause-gives
+returns-in-Err-clause-gives g c xs stands slot =
+    auditing_stopped c.args.self.now.intake.settings xs c.next.new.self _ _ _ c.in-Err.stop c.next.ensures.settings (search rules) (c.in-Err.ensures.gives (slots_of xs) stands.intake)
 
-pub returns-in-Ended-fill-clause-gives : goal.returns-in-Ended-fill-clause-gives
-returns-in-Ended-fill-clause-gives g c xs stands slot =
-    let settings = c.args.self.now.settings in
-    let letter = c.letter.ensures ∙ letter_same settings xs c.args.self.now.receiver c.read_values.new.soft stands.receiver ∙ ap (slot_letter settings (length xs)) c.read_values.ensures.values in
-    let built : is_built_slot settings (length xs) c.fill.new.buf ≡ true = ap is_built_letter (sym letter) ∙ sym c.is_built_letter.ensures ∙ search rules in
-    let front = c.front_into.ensures.front settings (slots_of xs) stands.receiver ∙ ap (slot_front settings (slots_of xs)) c.read_values.ensures.values in
-    let len = c.claim_len-self.ensures.length ∙ ap claim_length front in
-    let short = short_claim settings xs c.fill.new.buf c.claim_len-self.result (search rules) built len in
-    ended_behind (auditing settings) xs c.fill.new.buf c.claim_len-self.result _ c.fill-2.new.buf _ _ _ short c.in-Whole.ensures.bytes c.in-Ended-fill.ensures.bytes (search rules) (omega arith)
+pub returns-in-Ended-clause-gives : goal.returns-in-Ended-clause-gives
+returns-in-Ended-clause-gives g c xs stands slot =
+    let settings = c.args.self.now.intake.settings in
+    let next : IntakeStands c.next.new.self (slots_of xs) = search rules in
+    let (holds, came) = c.in_default.ensures.gives (slots_of xs) stands.intake in
+    let at = slot_at settings xs c.next.new.self c.front_into.new.front c.claim_len-self.result c.next.ensures.settings holds (c.front_into.ensures.front _ (slots_of xs) next.receiver) c.claim_len-self.ensures.length in
+    let short = short_claim settings xs c.next.new.self.bytes c.claim_len-self.result at.size at.built at.len_is in
+    ended_behind (auditing settings) xs c.next.new.self.bytes c.claim_len-self.result _ c.fill.new.buf _ _ _ short came c.in-Ended.ensures.bytes (search rules) (omega (arith, at.size))
 
-pub returns-in-Fault-fill-clause-gives : goal.returns-in-Fault-fill-clause-gives
-returns-in-Fault-fill-clause-gives g c xs stands slot =
-    let settings = c.args.self.now.settings in
-    let letter = c.letter.ensures ∙ letter_same settings xs c.args.self.now.receiver c.read_values.new.soft stands.receiver ∙ ap (slot_letter settings (length xs)) c.read_values.ensures.values in
-    let built : is_built_slot settings (length xs) c.fill.new.buf ≡ true = ap is_built_letter (sym letter) ∙ sym c.is_built_letter.ensures ∙ search rules in
-    let front = c.front_into.ensures.front settings (slots_of xs) stands.receiver ∙ ap (slot_front settings (slots_of xs)) c.read_values.ensures.values in
-    let len = c.claim_len-self.ensures.length ∙ ap claim_length front in
-    let short = short_claim settings xs c.fill.new.buf c.claim_len-self.result (search rules) built len in
-    let size : length c.fill-2.new.buf ≡ c.claim_len-self.result = search rules in
-    fault_behind (auditing settings) xs c.fill.new.buf c.claim_len-self.result _ _ _ short c.in-Whole.ensures.bytes (subst (TakesFewer (g.S.Source.rest c.fill.new.src) (g.S.Source.rest c.fill-2.new.src)) size c.in-Fault-fill.ensures.bytes)
+pub returns-in-Fault-clause-gives : goal.returns-in-Fault-clause-gives
+returns-in-Fault-clause-gives g c xs stands slot =
+    let settings = c.args.self.now.intake.settings in
+    let next : IntakeStands c.next.new.self (slots_of xs) = search rules in
+    let (holds, came) = c.in_default.ensures.gives (slots_of xs) stands.intake in
+    let at = slot_at settings xs c.next.new.self c.front_into.new.front c.claim_len-self.result c.next.ensures.settings holds (c.front_into.ensures.front _ (slots_of xs) next.receiver) c.claim_len-self.ensures.length in
+    let short = short_claim settings xs c.next.new.self.bytes c.claim_len-self.result at.size at.built at.len_is in
+    let size : length c.fill.new.buf ≡ c.claim_len-self.result = search rules in
+    fault_behind (auditing settings) xs c.next.new.self.bytes c.claim_len-self.result _ _ _ short came (subst (TakesFewer (g.S.Source.rest c.next.new.src) (g.S.Source.rest c.fill.new.src)) size c.in-Fault.ensures.bytes)
 
-pub returns-in-Whole-fill-clause-gives : goal.returns-in-Whole-fill-clause-gives
-returns-in-Whole-fill-clause-gives g c xs stands slot =
-    let settings = c.args.self.now.settings in
-    let letter = c.letter.ensures ∙ letter_same settings xs c.args.self.now.receiver c.read_values.new.soft stands.receiver ∙ ap (slot_letter settings (length xs)) c.read_values.ensures.values in
-    let built : is_built_slot settings (length xs) c.fill.new.buf ≡ true = ap is_built_letter (sym letter) ∙ sym c.is_built_letter.ensures ∙ search rules in
-    let front = c.front_into.ensures.front settings (slots_of xs) stands.receiver ∙ ap (slot_front settings (slots_of xs)) c.read_values.ensures.values in
-    let len = c.claim_len-self.ensures.length ∙ ap claim_length front in
-    let heard = c.front_into.ensures.front settings (slots_of xs) stands.receiver in
-    let next = c.front_into.ensures.stands settings (slots_of xs) stands.receiver in
-    let size : length c.fill-2.new.buf ≡ c.claim_len-self.result = search rules in
+pub returns-in-Whole-clause-gives : goal.returns-in-Whole-clause-gives
+returns-in-Whole-clause-gives g c xs stands slot =
+    let settings = c.args.self.now.intake.settings in
+    let same = c.next.ensures.settings in
+    let next : IntakeStands c.next.new.self (slots_of xs) = search rules in
+    let (holds, came) = c.in_default.ensures.gives (slots_of xs) stands.intake in
+    let heard = c.front_into.ensures.front _ (slots_of xs) next.receiver in
+    let at = slot_at settings xs c.next.new.self c.front_into.new.front c.claim_len-self.result same holds heard c.claim_len-self.ensures.length in
+    let taken = c.front_into.ensures.stands _ (slots_of xs) next.receiver in
+    let size : length c.fill.new.buf ≡ c.claim_len-self.result = search rules in
     let few = refused_few settings [] xs in
     let count = counts_number c.args.self.now.refusals _ stands.refusals in (
-      (c.fill.new.buf, c.fill-2.new.buf),
+      (c.next.new.self.bytes, c.fill.new.buf),
       record {
-        valid = stands.valid;
-        receiver = subst (λ v. ReceiverStands settings (slots_of xs ++ v ∷ []) c.front_into.new.self) c.read_values.ensures.values next;
-        refusals = stands.refusals;
+        intake = record { valid = next.valid; receiver = subst (λ v. ReceiverStands c.next.new.self.settings (slots_of xs ++ v ∷ []) c.front_into.new.self) holds.values taken };
+        refusals = subst (λ s. Counts c.args.self.now.refusals (refused_slots s [] xs)) (sym same) stands.refusals;
         counted = omega (arith, few, count, slot);
         slot = slot;
-        front = front;
+        front = at.front_is ∙ ap (λ s. front_at s xs c.next.new.self.bytes) (sym same);
         formed = c.front_into.ensures.well_formed;
-        audited = front_audited settings (slots_of xs) c.read_values.new.soft c.front_into.new.front heard;
+        audited = front_audited c.next.new.self.settings (slots_of xs) c.next.new.self.soft c.front_into.new.front heard;
         size = c.claim_len-self.ensures.length;
         within = c.claim_len-self.ensures.most;
-        claim = take_front c.claim_len-self.result c.fill-2.new.buf _ size;
+        claim = take_front c.claim_len-self.result c.fill.new.buf _ size;
       },
-      (search rules, built, size ∙ len),
-      Consumes-trans _ _ _ _ _ c.in-Whole.ensures.bytes c.in-Whole-fill.ensures.bytes,
+      (at.size, at.built, size ∙ at.len_is),
+      Consumes-trans _ _ _ _ _ came c.in-Whole.ensures.bytes,
     )

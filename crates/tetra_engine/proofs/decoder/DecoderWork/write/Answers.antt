@@ -5,8 +5,12 @@ use Rattle.tetra_engine.proofs.Framed.{heard_more}
 use Rattle.tetra_engine.proofs.decoder.DecoderWork.write.Goals as goal
 
 pub returns-clause-stands : goal.returns-clause-stands
-returns-clause-stands g c xs x holds = record {
-  valid = holds.stands.valid;
-  receiver = let more = heard_more xs x in let soft = holds.values in let next = c.slot_into.ensures.stands _ _ holds.stands.receiver in
-      subst (λ h. ReceiverStands c.args.self.now.settings h c.slot_into.new.self) (ap (λ v. map soft_values xs ++ v ∷ []) soft ∙ sym more) next;
-}
+returns-clause-stands g c xs x holds =
+    let given = ap (λ v. map soft_values xs ++ v ∷ []) (holds.holds.values ∙ ap soft_values holds.bytes) ∙ sym (heard_more xs x) in
+    let next = c.slot_into.ensures.stands _ _ holds.stands.intake.receiver in
+    record {
+      intake = record {
+        valid = holds.stands.intake.valid;
+        receiver = subst (λ h. ReceiverStands c.args.self.now.intake.settings h c.slot_into.new.self) given next;
+      };
+    }

@@ -11,7 +11,7 @@ mod words;
 pub use laws::{undamaged_arrives, words_differ};
 pub use searching::{RmReading, decode};
 pub use table::{Rows, own_rows};
-pub use words::encode;
+pub use words::{encode, message_bits};
 
 #[cfg(test)]
 mod tests;

@@ -1,7 +1,7 @@
 use Rattle.std.proofs.Common.{false, arith, length}
 use Rattle.tetra_bits.specs.lemmas.InPlace.{begins_set, begins_all}
 use Rattle.tetra_scramble.specs.Flips.{flipped_bit, flipped}
-use Rattle.tetra_scramble.proofs.Entries.{bit_flipped}
+use Rattle.tetra_scramble.specs.lemmas.Entries.{bit_flipped}
 use Rattle.tetra_scramble.proofs.flips.flip_bits.Goals as goal
 
 pub loop-i-preserved : goal.loop-i-preserved

@@ -3,7 +3,7 @@ use Rattle.std.proofs.Common.{to_z, of_z, w16}
 use Rattle.std.proofs.lemmas.Int.{to_z-of_z}
 use Rattle.tetra_bits.specs.lemmas.InPlace.{begins_set, begins_all}
 use Rattle.tetra_scramble.specs.Flips.{turned_value, turned}
-use Rattle.tetra_scramble.proofs.Entries.{sign_turned}
+use Rattle.tetra_scramble.specs.lemmas.Entries.{sign_turned}
 use Rattle.tetra_scramble.proofs.flips.flip_soft_into.Goals as goal
 
 pub loop-i-preserved : goal.loop-i-preserved

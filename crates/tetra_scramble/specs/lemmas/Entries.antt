@@ -4,9 +4,10 @@ use Rattle.std.proofs.Common.{◌≡◌, ℕ, ◌+◌, ◌-◌, ◌<◌, ◌≤�
 use Rattle.std.proofs.Math.Bool.{beq}
 use Rattle.std.proofs.Math.IntN.{neg_ℤ, neg_ℤ-neg_ℤ}
 use Rattle.std.proofs.lemmas.List.{ext_get_or}
-use Rattle.tetra_bits.specs.Numbered.{numbered, length-numbered, get_or-numbered}
+use Rattle.tetra_bits.specs.Numbered.{numbered, length-numbered, get_or-numbered, all_numbered}
 use Rattle.tetra_bits.specs.Order.{bit_at}
-use Rattle.tetra_bits.specs.Soft.{value_at}
+use Rattle.tetra_bits.specs.Soft.{value_at, IsWithin, AllWithin}
+use Rattle.tetra_bits.specs.lemmas.Within.{neg_within, within_at}
 use Rattle.tetra_bits.specs.Sums.{add2}
 use Rattle.tetra_bits.specs.Undamaged.{HasSign, IsUndamaged}
 use Rattle.tetra_scramble.specs.Flips.{key_bit_for, flipped_bit, flipped, turned_value, turned, FlippedBack, TurnedBack, StaysUndamaged}
@@ -112,3 +113,13 @@ stays_undamaged bits values key from u =
 -- values that have the signs of scrambled bits have, once turned, those of the bits
 pub descrambled_undamaged : (bits : List Bool) (values : List ℤ) (key : List Bool) (from : ℕ) → IsUndamaged (flipped bits key from) values → IsUndamaged bits (turned values key from)
 descrambled_undamaged bits values key from u = rw (flipped_back bits key from) at (stays_undamaged (flipped bits key from) values key from u)
+
+-- turned values are within what the values are within
+pub turned_within : (top : ℕ) (x : List ℤ) (key : List Bool) (from : ℕ) → AllWithin top x → AllWithin top (turned x key from)
+unfolding turned turned_value
+turned_within top x key from all =
+    all_numbered (IsWithin top) (turned_value x key from) (length x) (λ i.
+    elim (key_bit_for key from i) as (λ b. IsWithin top (cond b (neg_ℤ (value_at x (i - 1))) (value_at x (i - 1)))) [
+      | true ↦ neg_within top (value_at x (i - 1)) (within_at top x all (i - 1))
+      | false ↦ within_at top x all (i - 1)
+    ])

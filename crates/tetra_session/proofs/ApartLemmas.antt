@@ -1,4 +1,4 @@
--- What is read in a timeslot depends on no other timeslot.
+-- What is sent and what is read in a timeslot depends on no other timeslot.
 use Rattle.std.proofs.Common.{ℕ, ℤ, ◌-◌, ◌<◌, ◌≡◌, List, length, take, get_or, arith, refl, ap, sym, ◌∙◌}
 use Rattle.std.proofs.lemmas.List.{length-take-le}
 use Rattle.tetra_bursts.specs.Kind.{kind}
@@ -6,8 +6,10 @@ use Rattle.tetra_scramble.specs.Key.{key_of}
 use Rattle.tetra_settings.specs.Slots.{timeslot_of, frame_of, mode_of, use_of, use_in}
 use Rattle.tetra_settings.specs.declared.types.Mode.TheVariants.{Sig}
 use Rattle.tetra_settings.specs.declared.types.Settings.{Settings}
-use Rattle.tetra_session.specs.Apart.{SameOn, AgreeOn, HeardApart}
+use Rattle.tetra_settings.specs.declared.blocks.SlotBlocks.{SlotBlocks}
+use Rattle.tetra_session.specs.Apart.{SameOn, AgreeOn, SentApart, HeardApart}
 use Rattle.tetra_session.specs.Heard.{allowed_in, letter_heard, letter_by, slot_front, slot_reading}
+use Rattle.tetra_session.specs.Sent.{slot_written}
 use Rattle.tetra_session.specs.Spots.{is_downlink}
 
 module _ (c : ℕ) (s z : Settings) (agree : AgreeOn c s z) (t : ℕ) (here : timeslot_of s.at t ≡ c) where
@@ -38,6 +40,10 @@ module _ (c : ℕ) (s z : Settings) (agree : AgreeOn c s z) (t : ℕ) (here : ti
   unfolding slot_reading
   reading_same history other soft lh lo = rw (front_same history other soft lh lo, agree.rows) refl
 
+  written_same : (history other : List SlotBlocks) (blocks : SlotBlocks) → length history ≡ t → length other ≡ t → slot_written s history blocks ≡ slot_written z other blocks
+  unfolding slot_written
+  written_same history other blocks lh lo = rw (lh, lo, mode_same, key_same, agree.rows, agree.dir) refl
+
 -- an answer that the slot's own settings and its number decide is the same
 module _ {X Y : Type 0} (answer : Settings → List X → X → Y)
     (same : (c : ℕ) (s z : Settings) → AgreeOn c s z → (t : ℕ) → timeslot_of s.at t ≡ c → (history other : List X) (x : X) → length history ≡ t → length other ≡ t → answer s history x ≡ answer z other x) where
@@ -46,6 +52,9 @@ module _ {X Y : Type 0} (answer : Settings → List X → X → Y)
       let la : length (take t a) ≡ t = length-take-le t a (omega arith) in
       let lb : length (take t b) ≡ t = length-take-le t b (omega (arith, on.long)) in
       same c s z agree t here (take t a) (take t b) (get_or a t d) la lb ∙ ap (answer z (take t b)) (on.entries t d within here)
+
+pub sent_apart : SentApart
+sent_apart = apart slot_written written_same
 
 pub heard_apart : HeardApart
 heard_apart = record { fronts = apart slot_front front_same; readings = apart slot_reading reading_same }

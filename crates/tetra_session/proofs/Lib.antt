@@ -1,3 +1,5 @@
-pub mod BuiltLemmas
+pub mod Fitting
+pub mod Sending
 pub mod Answering
 pub mod ApartLemmas
+pub mod SlotsArriving

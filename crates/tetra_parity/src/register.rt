@@ -1,24 +1,19 @@
 // A register of shifts.
-ghost use Rattle.std.specs.Prelude.{◌≡◌, ◌≤◌, ◌<◌, ◌^◌, cond, bit_xor, length, take};
-ghost use Rattle.tetra_bits.specs.Polynomials.{times_x, power_rest};
-ghost use Rattle.tetra_parity.specs.Register.{IsGenerator, held};
+ghost use Rattle.std.specs.Prelude.{◌≡◌, ◌≤◌, ◌<◌, ◌^◌, length, take};
+ghost use Rattle.tetra_parity.specs.Parity.{block_rest};
+ghost use Rattle.tetra_parity.specs.Register.{IsGenerator, shifted_by};
 
 use tetra_bits::Bits;
 
-/// What a register of `DEGREE` bits holds behind the first `size` bits of a list, where it held `first` before them.
-/// Bit i of `GENERATOR` is the coefficient of `X^i`; its degree is `DEGREE`, at most 16.
-pub fn register_of<const DEGREE: usize, const GENERATOR: u32>(
-    bits: &Bits,
-    size: usize,
-    first: u32,
-) -> u32
+/// `X^DEGREE M(X)` modulo a generator, where `M(X)` is the sum of `b(k) X^(size - k)` over the first `size` bits: what
+/// a register holds behind them. Bit i of `GENERATOR` is the coefficient of `X^i`; its degree is `DEGREE`, at most 16.
+pub fn register_of<const DEGREE: usize, const GENERATOR: u32>(bits: &Bits, size: usize) -> u32
     requires generator { IsGenerator DEGREE GENERATOR }
     requires there { size ≤ length bits.now }
-    requires small { first < 2 ^ DEGREE }
-    ensures value { result ≡ held DEGREE GENERATOR first (take size bits.now) }
+    ensures value { result ≡ block_rest DEGREE GENERATOR (take size bits.now) }
     ensures small { result < 2 ^ DEGREE }
 {
-    let mut register = first;
+    let mut register = 0;
     for i in 0..size {
         register = shifted::<DEGREE, GENERATOR>(register, bits.get(i));
     }
@@ -29,7 +24,7 @@ pub fn register_of<const DEGREE: usize, const GENERATOR: u32>(
 fn shifted<const DEGREE: usize, const GENERATOR: u32>(register: u32, bit: bool) -> u32
     requires generator { IsGenerator DEGREE GENERATOR }
     requires small { register < 2 ^ DEGREE }
-    ensures value { result ≡ bit_xor (times_x DEGREE GENERATOR register) (cond bit (power_rest DEGREE GENERATOR DEGREE) 0) }
+    ensures value { result ≡ shifted_by DEGREE GENERATOR register bit }
     ensures small { result < 2 ^ DEGREE }
 {
     let wide = register << 1 ^ u32::from(bit) << DEGREE;

@@ -1,7 +1,6 @@
 // A register of shifts.
-ghost use Rattle.std.specs.Prelude.{◌≡◌, ◌≤◌, ◌<◌, ◌^◌, cond, bit_xor, length, take};
-ghost use Rattle.tetra_bits.specs.Polynomials.{times_x, power_rest};
-ghost use Rattle.tetra_parity.specs.Register.{IsGenerator, held};
+ghost use Rattle.std.specs.Prelude.{◌≡◌, ◌≤◌, ◌<◌, ◌^◌, length, take};
+ghost use Rattle.tetra_parity.specs.Register.{IsGenerator, held, shifted_by};
 
 use tetra_bits::Bits;
 
@@ -29,7 +28,7 @@ pub fn register_of<const DEGREE: usize, const GENERATOR: u32>(
 fn shifted<const DEGREE: usize, const GENERATOR: u32>(register: u32, bit: bool) -> u32
     requires generator { IsGenerator DEGREE GENERATOR }
     requires small { register < 2 ^ DEGREE }
-    ensures value { result ≡ bit_xor (times_x DEGREE GENERATOR register) (cond bit (power_rest DEGREE GENERATOR DEGREE) 0) }
+    ensures value { result ≡ shifted_by DEGREE GENERATOR register bit }
     ensures small { result < 2 ^ DEGREE }
 {
     let wide = register << 1 ^ u32::from(bit) << DEGREE;

@@ -16,7 +16,8 @@ value_cost taps values s b i = cost (value_at values i) (edge taps s b (i + 1))
 unfoldable pub way : (ℕ → ℕ → Bool) → ℕ → List ℤ → List ℕ → ℕ → Bool → ℕ
 way taps outs values after s b = sum_below outs (value_cost taps values s b) + slice_index after (next_state s b)
 
--- the entry of state s in the row before the step: the lesser of both ways, or the way of bit 0 where bit 1 is not allowed
+-- the entry of state s in the row before the step: the lesser of both ways, or the way of bit 0 where bit 1 is not
+-- allowed
 unfoldable pub row_entry : (ℕ → ℕ → Bool) → ℕ → List ℤ → List ℕ → Bool → ℕ → ℕ
 row_entry taps outs values after both s =
     cond both (min (way taps outs values after s false) (way taps outs values after s true))

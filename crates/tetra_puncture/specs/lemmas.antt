@@ -1,5 +1,5 @@
--- Facts on the definitions of this crate, with their proofs, for the laws of the plans, the proofs here and those in the
--- crates above. No contract cites them.
+-- Facts on the definitions of this crate, with their proofs, for the laws of the plans, the proofs here and those in
+-- the crates above. No contract cites them.
 pub mod Differ
 pub mod TwoThirds
 pub mod P292

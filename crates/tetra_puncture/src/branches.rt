@@ -108,7 +108,8 @@ fn label_costs(values: [i16; 4]) -> [u32; 16]
     costs
 }
 
-/// What step `t`, counted from 0, costs from `state` with `bit`, over the values `wide` at all places of the mother word.
+/// What step `t`, counted from 0, costs from `state` with `bit`, over the values `wide` at all places of the mother
+/// word.
 pub fn branch_cost<P: Plan>(wide: &Wide, labels: &Labels, t: usize, state: u8, bit: bool) -> u32
     requires sound { P.IsSound }
     requires size { length wide.now ≡ P.plan.outs * P.plan.steps }

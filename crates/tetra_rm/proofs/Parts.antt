@@ -1,6 +1,6 @@
 -- The metric of a word by its parts.
 use Prim.Native.Nat.{zero, suc}
-use Rattle.std.proofs.Common.{◌≡◌, ℕ, ◌+◌, ◌-◌, ◌*◌, ◌/◌, ◌%◌, ◌^◌, ◌<◌, ◌≤◌, ◌⊎◌, inl, inr, Bool, true, false, nat_eq, List, [], ◌∷◌, ◌++◌, length, take, drop, get_or, length-append, length-drop, append_assoc, arith, refl, ap, sym, ◌∙◌, subst}
+use Rattle.std.proofs.Common.{◌≡◌, ℕ, ◌+◌, ◌-◌, ◌*◌, ◌/◌, ◌%◌, ◌^◌, ◌<◌, ◌≤◌, inl, inr, Bool, true, false, nat_eq, List, [], ◌∷◌, ◌++◌, length, take, drop, length-drop, append_assoc, arith, ap, sym, ◌∙◌}
 use Rattle.std.specs.Prelude.{ℤ, pos, slice_index}
 use Rattle.std.proofs.lemmas.Bool.{cases_lt}
 use Rattle.std.proofs.lemmas.List.{take_all}
@@ -40,7 +40,7 @@ part_first soft from n v rest h =
     let size : length (digits n v) ≡ n = length-digits n v in
     let long : length (drop from soft) ≡ length soft - from = length-drop from soft in
     let whole : metric (drop from soft) (digits n v ++ rest) ≡ metric (take (length (digits n v)) (drop from soft)) (digits n v) + metric (drop (length (digits n v)) (drop from soft)) rest =
-      metric_cat (digits n v) rest (drop from soft) (omega arith) in
+    metric_cat (digits n v) rest (drop from soft) (omega arith) in
     whole ∙ ap (λ k. metric (take k (drop from soft)) (digits n v) + metric (drop k (drop from soft)) rest) size
     ∙ ap (λ s. metric (take n (drop from soft)) (digits n v) + metric s rest) (drop_twice from n soft)
 
@@ -68,11 +68,11 @@ module _ (rows : List ℕ) (soft : List ℤ) (size : length soft ≡ 30) (u l s 
   unfolding access_metric
   metric_parts =
       let a : metric soft (digits 7 u ++ (digits 7 l ++ (digits 8 (s / 256) ++ digits 8 (s % 256)))) ≡ part_metric soft 0 7 u + metric (drop 7 soft) (digits 7 l ++ (digits 8 (s / 256) ++ digits 8 (s % 256))) =
-        part_first soft 0 7 u (digits 7 l ++ (digits 8 (s / 256) ++ digits 8 (s % 256))) (omega arith) in
+      part_first soft 0 7 u (digits 7 l ++ (digits 8 (s / 256) ++ digits 8 (s % 256))) (omega arith) in
       let b : metric (drop 7 soft) (digits 7 l ++ (digits 8 (s / 256) ++ digits 8 (s % 256))) ≡ part_metric soft 7 7 l + metric (drop 14 soft) (digits 8 (s / 256) ++ digits 8 (s % 256)) =
-        part_first soft 7 7 l (digits 8 (s / 256) ++ digits 8 (s % 256)) (omega arith) in
+      part_first soft 7 7 l (digits 8 (s / 256) ++ digits 8 (s % 256)) (omega arith) in
       let c : metric (drop 14 soft) (digits 8 (s / 256) ++ digits 8 (s % 256)) ≡ part_metric soft 14 8 (s / 256) + metric (drop 22 soft) (digits 8 (s % 256)) =
-        part_first soft 14 8 (s / 256) (digits 8 (s % 256)) (omega arith) in
+      part_first soft 14 8 (s / 256) (digits 8 (s % 256)) (omega arith) in
       let d : metric (drop 22 soft) (digits 8 (s % 256)) ≡ part_metric soft 22 8 (s % 256) = part_last soft 22 8 (s % 256) (omega arith) in
       ap (metric soft) word_parts ∙ omega arith
 
@@ -149,7 +149,7 @@ module _ (rows : List ℕ) (soft : List ℤ) (costs : PartCosts) (size : length 
   tables_rate =
       let sum : bit_xor upper_sum lower_sum ≡ rows_sum rows (digits 14 (u * 2 ^ 7 + l)) 14 = ap (λ n. bit_xor n lower_sum) eu ∙ ap (bit_xor (rows_sum rows (digits 14 (u * 128)) 14)) el ∙ sym (sum_by_halves rows u l small_l) in
       let parts : access_metric rows soft (digits 14 (u * 2 ^ 7 + l)) ≡ part_metric soft 0 7 u + part_metric soft 7 7 l + part_metric soft 14 8 (bit_xor upper_sum lower_sum / 256) + part_metric soft 22 8 (bit_xor upper_sum lower_sum % 256) =
-        metric_parts rows soft size u l (bit_xor upper_sum lower_sum) small_l sum in
+      metric_parts rows soft size u l (bit_xor upper_sum lower_sum) small_l sum in
       let a : slice_index costs.upper u ≡ part_metric soft 0 7 u = tables.upper u small_u in
       let b : slice_index costs.lower l ≡ part_metric soft 7 7 l = tables.lower l small_l in
       let c : slice_index costs.first (bit_xor upper_sum lower_sum / 256) ≡ part_metric soft 14 8 (bit_xor upper_sum lower_sum / 256) = tables.first (bit_xor upper_sum lower_sum / 256) (omega arith) in

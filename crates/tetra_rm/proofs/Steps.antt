@@ -1,6 +1,6 @@
 -- The sum of the costs of a word, of which some places are turned one behind the other.
 use Prim.Native.Nat.{zero, suc}
-use Rattle.std.proofs.Common.{◌≡◌, ℕ, ◌+◌, ◌*◌, ◌^◌, ◌<◌, ◌≤◌, inl, inr, Bool, false, not, List, length, get_or, arith, refl, ap, sym, ◌∙◌}
+use Rattle.std.proofs.Common.{◌≡◌, ℕ, ◌+◌, ◌*◌, ◌^◌, ◌<◌, ◌≤◌, inl, inr, Bool, false, List, length, get_or, arith, ap, sym, ◌∙◌}
 use Rattle.std.specs.Prelude.{ℤ, nat_abs}
 use Rattle.std.proofs.lemmas.Bool.{cases_lt}
 use Rattle.tetra_bits.specs.Cost.{cost, cost_at, metric}

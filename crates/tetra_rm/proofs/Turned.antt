@@ -1,7 +1,7 @@
 -- The word of a message in which one bit is turned.
 use Prim.Native.Nat.{zero, suc}
-use Rattle.std.proofs.Common.{◌≡◌, ◌≢◌, ℕ, ◌+◌, ◌-◌, ◌/◌, ◌%◌, ◌^◌, ◌<◌, ◌≤◌, ◌⊎◌, inl, inr, Bool, true, false, not, nat_eq, nat_lt, List, ◌++◌, length, get_or, arith, refl, ap, sym, ◌∙◌}
-use Rattle.std.specs.Prelude.{ℤ, cond, slice_index, slice_set, if◌then◌else◌}
+use Rattle.std.proofs.Common.{◌≡◌, ◌≢◌, ℕ, ◌+◌, ◌-◌, ◌%◌, ◌<◌, ◌≤◌, inl, inr, Bool, true, false, not, nat_eq, nat_lt, List, ◌++◌, length, get_or, arith, refl, ap, sym, ◌∙◌}
+use Rattle.std.specs.Prelude.{cond, slice_index}
 use Rattle.std.proofs.lemmas.Bool.{cases_lt, cases_eq, lt-ltb, le-ltb}
 use Rattle.std.proofs.lemmas.Bool.Decides.{nat_tests}
 use Rattle.std.proofs.lemmas.List.{get_or_append_left, get_or-append_right, get_or-set_same, get_or-set_other, length-set}
@@ -11,7 +11,6 @@ use Rattle.std.specs.Int.{bit_at}
 use Rattle.std.specs.Int.Bits.{bit_xor, xor_assoc, xor_self, xor_zero_l}
 use Rattle.tetra_bits.specs.Digits.{digit, digits}
 use Rattle.tetra_bits.specs.Sums.{add2}
-use Rattle.tetra_bits.specs.lemmas.Digits.{length-digits}
 use Rattle.tetra_rm.specs.Code.{row_part, rows_sum, access_word}
 use Rattle.tetra_rm.specs.Turning.{turned_message, is_changed}
 use Rattle.tetra_rm.specs.lemmas.Numbers.{digit_at}
@@ -42,7 +41,6 @@ last_two : (a b c : ℕ) → bit_xor (bit_xor a b) c ≡ bit_xor (bit_xor a c) b
 last_two a b c = xor_assoc a b c ∙ ap (bit_xor a) (xor_comm b c) ∙ sym (xor_assoc a c b)
 
 module _ (rows : List ℕ) (m : List Bool) (r : ℕ) (size : length m ≡ 14) (here : r < 14) where
-
   same_bit : (k : ℕ) → k ≢ r → get_or (turned_message m (r + 1)) k false ≡ get_or m k false
   unfolding turned_message
   same_bit k other = let back : r + 1 - 1 ≡ r = omega arith in rw back (get_or-set_other m r k (not (get_or m r false)) false other)
@@ -80,7 +78,7 @@ module _ (rows : List ℕ) (m : List Bool) (r : ℕ) (size : length m ≡ 14) (h
     | inr ge ↦
         let at : n ≡ r = omega arith in
         let part : row_part rows (turned_message m (r + 1)) n ≡ bit_xor (row_part rows m n) (slice_index rows r) =
-          ap (row_part rows (turned_message m (r + 1))) at ∙ own_part ∙ ap (λ k. bit_xor (row_part rows m k) (slice_index rows r)) (sym at) in
+        ap (row_part rows (turned_message m (r + 1))) at ∙ own_part ∙ ap (λ k. bit_xor (row_part rows m k) (slice_index rows r)) (sym at) in
         rw (sum_before n (omega arith), part) (sym (xor_assoc (rows_sum rows m n) (row_part rows m n) (slice_index rows r)))
   ]
 
@@ -110,12 +108,12 @@ module _ (rows : List ℕ) (m : List Bool) (r : ℕ) (size : length m ≡ 14) (h
       let place : 16 - (k - 13) ≡ 16 - (k - 14 + 1) = omega arith in
       let whole : rows_sum rows (turned_message m (r + 1)) 14 ≡ bit_xor (rows_sum rows m 14) (slice_index rows r) = sum_behind 14 here in
       let new : get_or (turned_message m (r + 1) ++ digits 16 (rows_sum rows (turned_message m (r + 1)) 14)) k false ≡ nat_eq (bit_at (rows_sum rows (turned_message m (r + 1)) 14) (16 - (k - 14 + 1))) 1 =
-        get_or-append_right (turned_message m (r + 1)) (digits 16 (rows_sum rows (turned_message m (r + 1)) 14)) 14 k false length_turned from ∙ digit_at 16 (rows_sum rows (turned_message m (r + 1)) 14) (k - 14) (omega arith) in
+      get_or-append_right (turned_message m (r + 1)) (digits 16 (rows_sum rows (turned_message m (r + 1)) 14)) 14 k false length_turned from ∙ digit_at 16 (rows_sum rows (turned_message m (r + 1)) 14) (k - 14) (omega arith) in
       let old : get_or (m ++ digits 16 (rows_sum rows m 14)) k false ≡ nat_eq (bit_at (rows_sum rows m 14) (16 - (k - 14 + 1))) 1 =
-        get_or-append_right m (digits 16 (rows_sum rows m 14)) 14 k false size from ∙ digit_at 16 (rows_sum rows m 14) (k - 14) (omega arith) in
+      get_or-append_right m (digits 16 (rows_sum rows m 14)) 14 k false size from ∙ digit_at 16 (rows_sum rows m 14) (k - 14) (omega arith) in
       let xored : nat_eq (bit_at (bit_xor (rows_sum rows m 14) (slice_index rows r)) (16 - (k - 14 + 1))) 1 ≡ add2 (nat_eq (bit_at (rows_sum rows m 14) (16 - (k - 14 + 1))) 1) (nat_eq (bit_at (slice_index rows r) (16 - (k - 14 + 1))) 1) =
-        ap (λ n. nat_eq n 1) (bit_at_xor (rows_sum rows m 14) (slice_index rows r) (16 - (k - 14 + 1)))
-        ∙ digit_sum (bit_at (rows_sum rows m 14) (16 - (k - 14 + 1))) (bit_at (slice_index rows r) (16 - (k - 14 + 1))) (bit_at-lt (rows_sum rows m 14) (16 - (k - 14 + 1))) (bit_at-lt (slice_index rows r) (16 - (k - 14 + 1))) in
+      ap (λ n. nat_eq n 1) (bit_at_xor (rows_sum rows m 14) (slice_index rows r) (16 - (k - 14 + 1)))
+      ∙ digit_sum (bit_at (rows_sum rows m 14) (16 - (k - 14 + 1))) (bit_at (slice_index rows r) (16 - (k - 14 + 1))) (bit_at-lt (rows_sum rows m 14) (16 - (k - 14 + 1))) (bit_at-lt (slice_index rows r) (16 - (k - 14 + 1))) in
       rw (test, back, place, old) (new ∙ ap (λ s. nat_eq (bit_at s (16 - (k - 14 + 1))) 1) whole ∙ xored)
 
   -- each bit of the word that changes is turned, and the others stay

@@ -1,7 +1,6 @@
 -- The row behind the last step.
-use Rattle.std.proofs.Common.{◌≡◌, ◌≢◌, ℕ, ◌+◌, ◌<◌, ◌≤◌, inl, inr, List, [], length, get_or, set, ℤ, arith, refl, ◌∙◌, ap, get_or-set_other, get_or-set_same}
+use Rattle.std.proofs.Common.{◌≡◌, ℕ, ◌+◌, ◌<◌, List, [], length, get_or, set, ℤ, arith, refl, ◌∙◌, ap, get_or-set_same}
 use Rattle.std.proofs.Math.ListN.{length-set}
-use Rattle.std.proofs.lemmas.Bool.{cases_lt}
 use Rattle.tetra_bits.specs.Readings.{entry}
 use Rattle.tetra_puncture.specs.Plan.{CodePlan}
 use Rattle.tetra_puncture.specs.lemmas.Rows.{BackFrom, back_start}
@@ -17,4 +16,3 @@ first_row p wide rows after new t is long made zeros =
     let same : get_or (set rows t new) t [] ≡ new = row_same rows t new (omega arith) in
     rw (made, is) (back_start p wide (set rows p.steps new) (length-set rows p.steps new ∙ omega arith)
     (λ s h. let same : get_or (set rows p.steps new) p.steps [] ≡ new = row_same rows p.steps new (omega arith) in ap (λ l. get_or l s 0) same ∙ zeros s h))
-

@@ -1,12 +1,12 @@
-use Rattle.std.proofs.Common.{FitsSigned, w16, ℕ, ◌≡◌, ◌+◌, ◌-◌, ◌*◌, ◌^◌, ◌≤◌, ◌<◌, true, false, length, suc, get_or, arith, refl, ap, sym, ◌∙◌, subst}
-use Rattle.std.specs.Prelude.{nat_abs, slice_index}
+use Rattle.std.proofs.Common.{FitsSigned, w16, ◌≡◌, ◌+◌, ◌-◌, ◌*◌, ◌^◌, ◌≤◌, true, false, suc, arith, refl, ap, sym, ◌∙◌, subst}
+use Rattle.std.specs.Prelude.{nat_abs}
 use Rattle.std.proofs.lemmas.Int.{to_z-of_z, ints}
 use Rattle.std.proofs.Math.Nat.{pow-succ'}
 use Rattle.tetra_bits.specs.Cost.{cost}
 use Rattle.tetra_bits.specs.Soft.{value_at}
 use Rattle.tetra_bits.specs.declared.soft.TheConstants.{SOFT_MAX}
 use Rattle.tetra_bits.specs.lemmas.Within.{cost_within}
-use Rattle.tetra_rm.specs.Search.{part_metric, IsPartTable}
+use Rattle.tetra_rm.specs.Search.{IsPartTable}
 use Rattle.tetra_rm.proofs.Parts.{part_none, table_more, small_more}
 use Rattle.tetra_rm.proofs.costs.part_table.Goals as goal
 
@@ -34,10 +34,10 @@ loop-k-preserved c =
     let next : c.loop-k.k + 1 ≡ suc c.loop-k.k = omega arith in
     let behind : c.args.from + c.args.n - c.loop-k.k ≡ suc (c.args.from + c.args.n - (c.loop-k.k + 1)) = omega arith in
     let old : IsPartTable c.args.soft.now (suc (c.args.from + c.args.n - (c.loop-k.k + 1))) c.loop-k.k c.loop-k.table =
-      subst (λ from. IsPartTable c.args.soft.now from c.loop-k.k c.loop-k.table) behind c.loop-k.invariant.table in
+    subst (λ from. IsPartTable c.args.soft.now from c.loop-k.k c.loop-k.table) behind c.loop-k.invariant.table in
     let new : IsPartTable c.args.soft.now (c.args.from + c.args.n - (c.loop-k.k + 1)) (suc c.loop-k.k) c.grow.new.table =
-      table_more c.args.soft.now (c.args.from + c.args.n - (c.loop-k.k + 1)) c.loop-k.k c.loop-k.size c.cost.result c.cost-in-loop-k.result c.loop-k.table c.grow.new.table
-      (omega arith) c.loop-k.invariant.doubled zero_cost one_cost old c.grow.ensures.first c.grow.ensures.second in
+    table_more c.args.soft.now (c.args.from + c.args.n - (c.loop-k.k + 1)) c.loop-k.k c.loop-k.size c.cost.result c.cost-in-loop-k.result c.loop-k.table c.grow.new.table
+    (omega arith) c.loop-k.invariant.doubled zero_cost one_cost old c.grow.ensures.first c.grow.ensures.second in
     let power : 2 ^ suc c.loop-k.k ≡ 2 * 2 ^ c.loop-k.k = pow-succ' 2 c.loop-k.k in
     let doubled : c.loop-k.size * 2 ≡ 2 ^ suc c.loop-k.k = omega (arith, c.loop-k.invariant.doubled) in
     record {
@@ -55,7 +55,7 @@ returns-clause-table c =
 
 pub returns-clause-small : goal.returns-clause-small
 returns-clause-small c = λ v h.
-  let end : c.loop-k.k ≡ c.args.n = omega arith in
-  let size : c.loop-k.size ≡ 2 ^ c.args.n = c.loop-k.invariant.doubled ∙ ap (λ n. 2 ^ n) end in
-  let most = c.loop-k.invariant.small v (omega arith) in
-  omega arith
+    let end : c.loop-k.k ≡ c.args.n = omega arith in
+    let size : c.loop-k.size ≡ 2 ^ c.args.n = c.loop-k.invariant.doubled ∙ ap (λ n. 2 ^ n) end in
+    let most = c.loop-k.invariant.small v (omega arith) in
+    omega arith

@@ -1,4 +1,4 @@
-use Rattle.std.proofs.Common.{◌≡◌, ℕ, ◌+◌, ◌-◌, ◌*◌, ◌^◌, ◌<◌, ◌≤◌, List, get_or}
+use Rattle.std.proofs.Common.{◌≡◌, ℕ, ◌+◌, ◌-◌, ◌*◌, ◌^◌, ◌<◌, ◌≤◌, get_or}
 use Rattle.std.specs.Prelude.{nat_abs}
 use Rattle.tetra_bits.specs.declared.soft.TheConstants.{SOFT_MAX}
 use Rattle.tetra_rm.specs.Search.{IsPartTable}

@@ -1,4 +1,4 @@
-use Rattle.std.proofs.Common.{◌≡◌, ℕ, ◌+◌, ◌*◌, List, length}
+use Rattle.std.proofs.Common.{◌≡◌, ◌+◌, ◌*◌, List, length}
 use Rattle.std.specs.Prelude.{ℤ}
 use Rattle.tetra_rm.specs.Search.{IsFirstAmong, ArePartCosts}
 use Rattle.tetra_rm.proofs.searching.best_of_half.Given as goal

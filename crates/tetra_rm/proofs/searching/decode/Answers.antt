@@ -1,4 +1,4 @@
-use Rattle.std.proofs.Common.{◌≡◌, ℕ, ◌<◌, ◌≤◌, ◌^◌, ◌+◌, ◌*◌, length, arith, refl, ap, sym, ◌∙◌, subst}
+use Rattle.std.proofs.Common.{◌≡◌, ◌≤◌, ◌+◌, ◌*◌, length, arith, subst}
 use Rattle.tetra_bits.specs.Digits.{digits}
 use Rattle.tetra_bits.specs.Cost.{metric}
 use Rattle.tetra_bits.specs.lemmas.Within.{metric_within}
@@ -39,7 +39,7 @@ returns-clause-metric c = c.loop-upper.invariant.rated
 pub returns-clause-within : goal.returns-clause-within
 unfolding access_metric
 returns-clause-within c = λ top within.
-  let most : metric c.args.soft.now (access_word c.args.rows.now.0 (digits 14 c.loop-upper.best.message)) ≤ top * length c.args.soft.now =
+    let most : metric c.args.soft.now (access_word c.args.rows.now.0 (digits 14 c.loop-upper.best.message)) ≤ top * length c.args.soft.now =
     metric_within top c.args.soft.now (access_word c.args.rows.now.0 (digits 14 c.loop-upper.best.message)) within in
-  let rated : c.loop-upper.best.metric ≡ metric c.args.soft.now (access_word c.args.rows.now.0 (digits 14 c.loop-upper.best.message)) = returns-clause-metric c in
-  rw (rated, ← c.requires) most
+    let rated : c.loop-upper.best.metric ≡ metric c.args.soft.now (access_word c.args.rows.now.0 (digits 14 c.loop-upper.best.message)) = returns-clause-metric c in
+    rw (rated, ← c.requires) most

@@ -1,6 +1,5 @@
-use Rattle.std.proofs.Common.{ℕ, ◌≡◌, ◌+◌, ◌-◌, ◌/◌, ◌%◌, ◌^◌, ◌<◌, true, false, nat_eq, nat_lt, get_or, arith, refl, ap, sym, ◌∙◌}
+use Rattle.std.proofs.Common.{◌≡◌, ◌-◌, true, false, nat_lt, arith, refl}
 use Rattle.std.proofs.lemmas.Bool.{lt-ltb, le-ltb}
-use Rattle.std.specs.Prelude.{slice_index}
 use Rattle.tetra_bits.specs.Digits.{digit}
 use Rattle.tetra_rm.specs.Turning.{is_changed}
 use Rattle.tetra_rm.proofs.walk.is_changed.Goals as goal

@@ -1,4 +1,4 @@
-use Rattle.std.proofs.Common.{FitsSigned, w16, ℕ, ◌≡◌, ◌+◌, ◌-◌, ◌≤◌, ◌<◌, Bool, true, false, not, get_or, arith, refl, ap, sym, ◌∙◌}
+use Rattle.std.proofs.Common.{FitsSigned, w16, ◌≡◌, false, not, get_or, arith, refl, ap, sym, ◌∙◌}
 use Rattle.std.proofs.lemmas.Int.{to_z-of_z, ints}
 use Rattle.tetra_bits.specs.Cost.{cost, cost_at}
 use Rattle.tetra_bits.specs.Soft.{value_at}
@@ -24,12 +24,12 @@ returns-then-turn c =
     let here : c.cost.result ≡ cost (value_at c.args.soft.now c.args.k) (get_or c.args.word.now c.args.k false) = cc in
     let turned : c.cost-then-turn.result ≡ cost (value_at c.args.soft.now c.args.k) (not (get_or c.args.word.now c.args.k false)) = cc in
     let bit : add2 (get_or c.args.word.now c.args.k false) c.args.turn ≡ not (get_or c.args.word.now c.args.k false) =
-      ap (add2 (get_or c.args.word.now c.args.k false)) c.if-turn.true ∙ sym (add_one_bit (get_or c.args.word.now c.args.k false)) in
+    ap (add2 (get_or c.args.word.now c.args.k false)) c.if-turn.true ∙ sym (add_one_bit (get_or c.args.word.now c.args.k false)) in
     rw bit (omega (arith, c.requires.there))
 
 pub returns-else-turn : goal.returns-else-turn
 unfolding cost_at
 returns-else-turn c =
     let bit : add2 (get_or c.args.word.now c.args.k false) c.args.turn ≡ get_or c.args.word.now c.args.k false =
-      ap (add2 (get_or c.args.word.now c.args.k false)) c.if-turn.false ∙ sym (add_no_bit (get_or c.args.word.now c.args.k false)) in
+    ap (add2 (get_or c.args.word.now c.args.k false)) c.if-turn.false ∙ sym (add_no_bit (get_or c.args.word.now c.args.k false)) in
     rw bit refl

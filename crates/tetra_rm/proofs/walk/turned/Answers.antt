@@ -1,8 +1,7 @@
-use Rattle.std.proofs.Common.{ℕ, ◌≡◌, ◌+◌, ◌-◌, ◌≤◌, ◌<◌, Bool, false, List, get_or, length, not, arith, refl, ap, sym, ◌∙◌, subst}
-use Rattle.std.specs.Prelude.{ℤ}
-use Rattle.tetra_bits.specs.Cost.{cost, cost_at, metric}
+use Rattle.std.proofs.Common.{◌≡◌, ◌+◌, ◌-◌, ◌≤◌, false, get_or, arith, refl, ap, sym, ◌∙◌, subst}
+use Rattle.tetra_bits.specs.Cost.{cost, cost_at}
 use Rattle.tetra_bits.specs.Digits.{digits}
-use Rattle.tetra_bits.specs.Soft.{AllSoft, value_at}
+use Rattle.tetra_bits.specs.Soft.{value_at}
 use Rattle.tetra_bits.specs.Sums.{add2, sum_below}
 use Rattle.tetra_bits.specs.lemmas.Digits.{length-digits}
 use Rattle.tetra_rm.specs.Code.{access_word, access_metric}
@@ -33,17 +32,17 @@ unfolding access_metric
 loop-k-preserved c =
     let back : c.args.bit - 1 + 1 ≡ c.args.bit = omega (arith, c.requires.bit) in
     let turned : get_or (access_word c.args.rows.now.0 (turned_message (digits 14 c.args.message) (c.args.bit - 1 + 1))) c.loop-k.k false
-        ≡ add2 (get_or (access_word c.args.rows.now.0 (digits 14 c.args.message)) c.loop-k.k false) (is_changed c.args.rows.now.0 (c.args.bit - 1 + 1) c.loop-k.k) =
-      turned_bit c.args.rows.now.0 (digits 14 c.args.message) (c.args.bit - 1) (length-digits 14 c.args.message) (omega (arith, c.requires.bit)) c.loop-k.k (omega arith) in
+    ≡ add2 (get_or (access_word c.args.rows.now.0 (digits 14 c.args.message)) c.loop-k.k false) (is_changed c.args.rows.now.0 (c.args.bit - 1 + 1) c.loop-k.k) =
+    turned_bit c.args.rows.now.0 (digits 14 c.args.message) (c.args.bit - 1) (length-digits 14 c.args.message) (omega (arith, c.requires.bit)) c.loop-k.k (omega arith) in
     let bit : get_or (access_word c.args.rows.now.0 (turned_message (digits 14 c.args.message) c.args.bit)) c.loop-k.k false
-        ≡ add2 (get_or (access_word c.args.rows.now.0 (digits 14 c.args.message)) c.loop-k.k false) c.is_changed.result =
-      subst (λ b. get_or (access_word c.args.rows.now.0 (turned_message (digits 14 c.args.message) b)) c.loop-k.k false
-      ≡ add2 (get_or (access_word c.args.rows.now.0 (digits 14 c.args.message)) c.loop-k.k false) (is_changed c.args.rows.now.0 b c.loop-k.k)) back turned
-      ∙ ap (add2 (get_or (access_word c.args.rows.now.0 (digits 14 c.args.message)) c.loop-k.k false)) (sym c.is_changed.ensures) in
+    ≡ add2 (get_or (access_word c.args.rows.now.0 (digits 14 c.args.message)) c.loop-k.k false) c.is_changed.result =
+    subst (λ b. get_or (access_word c.args.rows.now.0 (turned_message (digits 14 c.args.message) b)) c.loop-k.k false
+    ≡ add2 (get_or (access_word c.args.rows.now.0 (digits 14 c.args.message)) c.loop-k.k false) (is_changed c.args.rows.now.0 b c.loop-k.k)) back turned
+    ∙ ap (add2 (get_or (access_word c.args.rows.now.0 (digits 14 c.args.message)) c.loop-k.k false)) (sym c.is_changed.ensures) in
     let step : c.recosted-sum.result + cost_at c.args.soft.now (access_word c.args.rows.now.0 (digits 14 c.args.message)) c.loop-k.k
-        ≡ c.loop-k.sum + cost (value_at c.args.soft.now c.loop-k.k) (add2 (get_or (access_word c.args.rows.now.0 (digits 14 c.args.message)) c.loop-k.k false) c.is_changed.result) =
-      subst (λ w. c.recosted-sum.result + cost_at c.args.soft.now w c.loop-k.k ≡ c.loop-k.sum + cost (value_at c.args.soft.now c.loop-k.k) (add2 (get_or w c.loop-k.k false) c.is_changed.result))
-      c.encode-word.ensures.word c.recosted-sum.ensures in
+    ≡ c.loop-k.sum + cost (value_at c.args.soft.now c.loop-k.k) (add2 (get_or (access_word c.args.rows.now.0 (digits 14 c.args.message)) c.loop-k.k false) c.is_changed.result) =
+    subst (λ w. c.recosted-sum.result + cost_at c.args.soft.now w c.loop-k.k ≡ c.loop-k.sum + cost (value_at c.args.soft.now c.loop-k.k) (add2 (get_or w c.loop-k.k false) c.is_changed.result))
+    c.encode-word.ensures.word c.recosted-sum.ensures in
     one_more c.args.soft.now c.requires.values c.len-k-end.ensures.soft (access_word c.args.rows.now.0 (digits 14 c.args.message))
     (access_word c.args.rows.now.0 (turned_message (digits 14 c.args.message) c.args.bit)) c.args.metric c.loop-k.sum c.loop-k.k c.requires.metric c.loop-k.invariant c.is_changed.result c.recosted-sum.result bit step
 

@@ -1,4 +1,4 @@
-use Rattle.std.proofs.Common.{ℕ, ◌≤◌, ◌*◌, ◌+◌, ap, sym, subst, arith, rules, ◌∙◌}
+use Rattle.std.proofs.Common.{ℕ, ◌≤◌, ◌*◌, ◌+◌, ap, sym, subst, arith, ◌∙◌}
 use Rattle.tetra_bits.specs.Readings.{entry}
 use Rattle.tetra_puncture.specs.Certified.{Fits}
 use Rattle.tetra_puncture.specs.Decoding.{IsBackward, IsTraced}

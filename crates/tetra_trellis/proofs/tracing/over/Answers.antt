@@ -1,4 +1,4 @@
-use Rattle.std.proofs.Common.{◌≡◌, ◌+◌, arith, ap, ◌∙◌}
+use Rattle.std.proofs.Common.{◌+◌, arith, ap, ◌∙◌}
 use Rattle.tetra_bits.specs.Readings.{entry}
 use Rattle.tetra_puncture.specs.Trellis.{over_branch}
 use Rattle.tetra_trellis.proofs.tracing.over.Goals as goal

@@ -5,7 +5,7 @@ use Rattle.std.specs.Io.KnownBytes.{Consumes}
 use Rattle.std.proofs.lemmas.List.{length-take}
 use Rattle.tetra_io.specs.Filling.{Fills, TakesFewer}
 use Rattle.tetra_io.specs.declared.filling.Filled.TheVariants.{Ended}
-use Rattle.tetra_io.specs.Told.{Went-behind, AreTold-some, AreTold-behind, AreTold-all}
+use Rattle.tetra_io.specs.lemmas.Told.{Went-behind, AreTold-some, AreTold-behind, AreTold-all}
 use Rattle.tetra_engine.specs.declared.status.Status.TheVariants.{Input, NotBuilt}
 use Rattle.tetra_records.specs.declared.faults.RecordFault.TheVariants.{Truncated}
 use Rattle.tetra_engine.specs.Shapes.{Shape, NoInput}

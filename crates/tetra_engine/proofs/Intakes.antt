@@ -5,7 +5,7 @@ use Rattle.std.specs.Io.KnownBytes.{Consumes}
 use Rattle.std.proofs.KnownBytes.{Consumes-nil}
 use Rattle.std.proofs.lemmas.List.{length-take}
 use Rattle.tetra_io.specs.Filling.{Fills}
-use Rattle.tetra_io.specs.Told.{AreTold-all}
+use Rattle.tetra_io.specs.lemmas.Told.{AreTold-all}
 use Rattle.tetra_io.specs.declared.filling.Filled.TheVariants.{Ended}
 use Rattle.tetra_settings.specs.declared.types.Settings.{Settings}
 use Rattle.tetra_session.specs.declared.receiver.Receiver.{Receiver}

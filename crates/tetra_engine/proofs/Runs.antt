@@ -7,7 +7,7 @@ use Rattle.std.specs.Io.KnownBytes.{Consumes, Appends, IsAtEnd}
 use Rattle.std.proofs.KnownBytes.{Consumes-trans, Appends-trans, Consumes-nil, Appends-nil}
 use Rattle.tetra_io.specs.Streams.{KeepsOrHides}
 use Rattle.tetra_io.specs.Filling.{TakesFewer, AddsFront, Went}
-use Rattle.tetra_io.specs.Told.{Went-behind, AreTold-some, AreTold-end, AreTold-behind, AreTold-went}
+use Rattle.tetra_io.specs.lemmas.Told.{Went-behind, AreTold-some, AreTold-end, AreTold-behind, AreTold-went}
 use Rattle.tetra_engine.specs.declared.status.End.{End}
 use Rattle.tetra_engine.specs.declared.status.Status.{Status}
 use Rattle.tetra_engine.specs.declared.status.Status.TheVariants.{Done, Refused, Words, TooLong, Input, Read, Write, NotBuilt}

@@ -5,4 +5,4 @@ pub mod MemorySource
 pub mod MemorySink
 pub mod Sure
 pub mod System
-pub mod Told
+pub mod lemmas

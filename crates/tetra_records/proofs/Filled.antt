@@ -7,7 +7,7 @@ use Rattle.std.proofs.Math.ListN.{get_or-append}
 use Rattle.std.proofs.lemmas.Slice.{take-put_mid}
 use borrow.Rule.Slice.PartMut.{put_mid}
 use Rattle.tetra_io.specs.Filling.{TakesFewer}
-use Rattle.tetra_io.specs.Told.{AreTold-all, Went-behind}
+use Rattle.tetra_io.specs.lemmas.Told.{AreTold-all, Went-behind}
 use Rattle.tetra_settings.specs.declared.slots.Letter.{Letter}
 use Rattle.tetra_settings.specs.declared.slots.Letter.TheVariants.{F, H, S, T, P, Q, C}
 use Rattle.tetra_settings.specs.Blocks.{field_bits}

@@ -5,7 +5,7 @@ use Rattle.std.specs.Io.KnownBytes.{Consumes}
 use Rattle.std.proofs.KnownBytes.{Consumes-trans}
 use Rattle.std.proofs.Math.Seq.{take-append_seam}
 use Rattle.std.proofs.lemmas.Bool.{eqb-true}
-use Rattle.tetra_io.specs.Told.{AreTold-some, AreTold-behind, Went-behind}
+use Rattle.tetra_io.specs.lemmas.Told.{AreTold-some, AreTold-behind, Went-behind}
 use Rattle.tetra_settings.specs.declared.types.Settings.{Settings}
 use Rattle.tetra_settings.specs.declared.slots.Letter.{Letter}
 use Rattle.tetra_settings.specs.declared.blocks.SlotBlocks.{SlotBlocks}

@@ -5,55 +5,60 @@ use Rattle.std.specs.Prelude.{◌≡◌, ◌↔◌, ℕ, ◌+◌, ◌<◌, List,
 use Rattle.std.specs.List.{All}
 use Rattle.std.specs.declared.option.Option.{Option}
 use Rattle.tetra_bits.specs.Soft.{AllSoft}
+use Rattle.tetra_channels.specs.Channels.{Channel}
 use Rattle.tetra_puncture.specs.Best.{best_of}
+use Rattle.tetra_puncture.specs.Plan.{CodePlan}
 use Rattle.tetra_puncture.specs.Rules.{IsAccepted}
 use Rattle.tetra_puncture.specs.Spread.{spread_values}
 use Rattle.tetra_records.specs.Readings.{reading_spelling}
 use Rattle.tetra_rm.specs.declared.table.Rows.{Rows}
-use Rattle.tetra_session.specs.Built.{IsBuiltLetter}
+use Rattle.tetra_session.specs.Built.{IsBuilt, IsBuiltLetter}
 use Rattle.tetra_session.specs.Fronts.{IsFront}
+use Rattle.tetra_session.specs.Readers.{reader, channel_of, field_reading}
 use Rattle.tetra_session.specs.Heard.{slot_letter, slot_front, slot_reading}
 use Rattle.tetra_session.specs.declared.front.FrontField.{FrontField}
 use Rattle.tetra_session.specs.declared.front.Front.{Front}
 use Rattle.tetra_settings.specs.declared.readings.Field.{Field}
 use Rattle.tetra_settings.specs.declared.types.Form.TheVariants.{Audit}
 use Rattle.tetra_settings.specs.declared.types.Settings.{Settings}
-use Rattle.tetra_audit.specs.Fields.{Code, code_of, field_reading, IsAudited, claim_length}
+use Rattle.tetra_audit.specs.Fields.{IsAudited, claim_length}
 use Rattle.tetra_audit.specs.Verdicts.{slot_verdict}
 use Rattle.tetra_audit.specs.declared.verdict.SlotVerdict.TheVariants.{Agrees}
 
 -- a table of a row of 16 before each step and one behind the last, which the rules accept beside the
 -- first-least message
-pub record IsCertificate (code : Code) (soft : List ℤ) (table : List (List ℕ)) : Type 0 where
-  pub rows : length table ≡ code.plan.steps + 1
+pub record IsCertificate (plan : CodePlan) (soft : List ℤ) (table : List (List ℕ)) : Type 0 where
+  pub rows : length table ≡ plan.steps + 1
   pub states : All (λ row. length row ≡ 16) table
-  pub accepted : IsAccepted code.plan (spread_values code.plan soft) (best_of code.plan soft) table
+  pub accepted : IsAccepted plan (spread_values plan soft) (best_of plan soft) table
 
 -- such a table where the field has a code and values, and else none
-abbrev pub AreCertified : Option Code → Option (List ℤ) → Option (List (List ℕ)) → Type 0
-AreCertified (Some code) (Some soft) (Some table) = IsCertificate code soft table
-AreCertified (Some code) (Some soft) None = ⊥
-AreCertified code values None = Unit {0}
-AreCertified code values (Some table) = ⊥
+abbrev pub AreCertified : Option Channel → Option (List ℤ) → Option (List (List ℕ)) → Type 0
+AreCertified (Some channel) (Some soft) (Some table) = IsCertificate channel.plan soft table
+AreCertified (Some channel) (Some soft) None = ⊥
+AreCertified (Some channel) None None = Unit {0}
+AreCertified (Some channel) None (Some table) = ⊥
+AreCertified None values None = Unit {0}
+AreCertified None values (Some table) = ⊥
 
 -- the reading is the defined one, but for its potentials
-pub record IsRight (field : FrontField) (claimed : Field) : Type 0 where
+pub record IsRight (rows : List ℕ) (field : FrontField) (claimed : Field) : Type 0 where
   pub name : claimed.name ≡ field.name
-  pub mark : claimed.reading.mark ≡ (field_reading field).mark
-  pub metric : claimed.reading.metric ≡ (field_reading field).metric
-  pub bits : claimed.reading.bits ≡ (field_reading field).bits
-  pub potentials : AreCertified (code_of field.name) field.soft claimed.reading.potentials
+  pub mark : claimed.reading.mark ≡ (field_reading rows field.name field.soft).mark
+  pub metric : claimed.reading.metric ≡ (field_reading rows field.name field.soft).metric
+  pub bits : claimed.reading.bits ≡ (field_reading rows field.name field.soft).bits
+  pub potentials : AreCertified (channel_of (reader field.name)) field.soft claimed.reading.potentials
 
-abbrev pub AreRight : List FrontField → List Field → Type 0
-AreRight [] [] = Unit {0}
-AreRight [] (claimed ∷ more) = ⊥
-AreRight (field ∷ fields) [] = ⊥
-AreRight (field ∷ fields) (claimed ∷ more) = IsRight field claimed × AreRight fields more
+abbrev pub AreRight : List ℕ → List FrontField → List Field → Type 0
+AreRight rows [] [] = Unit {0}
+AreRight rows [] (claimed ∷ more) = ⊥
+AreRight rows (field ∷ fields) [] = ⊥
+AreRight rows (field ∷ fields) (claimed ∷ more) = IsRight rows field claimed × AreRight rows fields more
 
 -- the claim spells right readings of all fields behind the letter
-pub record IsRightClaim (front : Front) (claim : List ℕ) : Type 0 where
+pub record IsRightClaim (rows : List ℕ) (front : Front) (claim : List ℕ) : Type 0 where
   pub claimed : List Field
-  pub right : AreRight front.fields.items claimed
+  pub right : AreRight rows front.fields.items claimed
   pub spelled : claim ≡ reading_spelling Audit (record { letter = front.letter; fields = record { items = claimed } })
 
 -- numbers that are bytes
@@ -65,7 +70,7 @@ abbrev pub AgreesExactly : Type 0
 AgreesExactly =
     (rows : Rows) (front : Front) (claim : List ℕ)
     → IsFront front → All IsAudited front.fields.items → AreBytes claim → length claim ≡ claim_length front
-    → (slot_verdict rows front claim ≡ Agrees) ↔ IsRightClaim front claim
+    → (slot_verdict rows front claim ≡ Agrees) ↔ IsRightClaim rows.0 front claim
 
 -- the record that is defined for a slot, with certificates
 abbrev pub own_record : Settings → List (List ℤ) → List ℤ → List ℕ
@@ -73,7 +78,7 @@ own_record settings history soft = reading_spelling Audit (slot_reading settings
 
 -- it has the length that is claimed for the slot, and agrees
 abbrev pub OwnRecordsAgree : Type 0
-OwnRecordsAgree = (rows : Rows) (settings : Settings) (history : List (List ℤ)) (soft : List ℤ)
-    → AllSoft soft → IsBuiltLetter (slot_letter settings (length history) soft)
+OwnRecordsAgree = (settings : Settings) (history : List (List ℤ)) (soft : List ℤ)
+    → IsBuilt settings → AllSoft soft → IsBuiltLetter (slot_letter settings (length history) soft)
     → (length (own_record settings history soft) ≡ claim_length (slot_front settings history soft))
-    × (slot_verdict rows (slot_front settings history soft) (own_record settings history soft) ≡ Agrees)
+    × (slot_verdict settings.rows (slot_front settings history soft) (own_record settings history soft) ≡ Agrees)

@@ -3,17 +3,20 @@ use Rattle.std.specs.Prelude.{ℕ, ◌+◌, ◌-◌, nat_eq, Bool, cond, List, [
 use Rattle.std.specs.Str.{bytes_eq}
 use Rattle.std.specs.declared.option.Option.{Option}
 use Rattle.tetra_bits.specs.Packed.{packed}
+use Rattle.tetra_bits.specs.Readings.{mark_byte}
 use Rattle.tetra_bits.specs.declared.reading.Mark.{Mark}
 use Rattle.tetra_bits.specs.declared.reading.Reading.{Reading}
+use Rattle.tetra_channels.specs.Channels.{Channel}
 use Rattle.tetra_cert.specs.Verdicts.{verdict_of}
 use Rattle.tetra_cert.specs.declared.verdict.Verdict.{Verdict}
 use Rattle.tetra_cert.specs.declared.verdict.Verdict.TheVariants.{Accepted, Refused}
-use Rattle.tetra_records.specs.Readings.{mark_byte}
 use Rattle.tetra_rm.specs.declared.table.Rows.{Rows}
+use Rattle.tetra_puncture.specs.Plan.{CodePlan}
+use Rattle.tetra_session.specs.Readers.{reader, channel_of, field_reading}
 use Rattle.tetra_session.specs.declared.front.FrontField.{FrontField}
 use Rattle.tetra_session.specs.declared.front.Front.{Front}
 use Rattle.tetra_audit.specs.Claims.{claimed_bits, claimed_table, has_pad, mark_part, metric_part, bits_part, table_part}
-use Rattle.tetra_audit.specs.Fields.{Code, code_of, field_reading, field_length}
+use Rattle.tetra_audit.specs.Fields.{field_length}
 use Rattle.tetra_audit.specs.declared.verdict.FieldWhy.{FieldWhy}
 use Rattle.tetra_audit.specs.declared.verdict.FieldWhy.TheVariants.{Pad, Bits, Cert, Metric, Mark as MarkFails}
 use Rattle.tetra_audit.specs.declared.verdict.SlotVerdict.{SlotVerdict}
@@ -38,11 +41,11 @@ abbrev pub fault_by : Verdict → Option FieldWhy
 fault_by Accepted = None
 fault_by (Refused step state rule) = Some (Cert step state rule)
 
-unfoldable pub cert_fault : Code → List ℤ → List ℕ → Option FieldWhy
-cert_fault code soft bytes =
-    let len = code.plan.steps - 4 in
-    fault_by (verdict_of code.plan soft (claimed_bits (bits_part len bytes) len)
-    (claimed_table (table_part len bytes) (code.plan.steps + 1)))
+unfoldable pub cert_fault : CodePlan → List ℤ → List ℕ → Option FieldWhy
+cert_fault plan soft bytes =
+    let len = plan.steps - 4 in
+    fault_by (verdict_of plan soft (claimed_bits (bits_part len bytes) len)
+    (claimed_table (table_part len bytes) (plan.steps + 1)))
 
 -- the metric is not this
 unfoldable pub metric_fault : ℕ → List ℕ → Option FieldWhy
@@ -54,17 +57,25 @@ mark_fault mark bytes = cond (nat_eq (mark_part bytes) (mark_byte mark)) None (S
 
 -- The tests of a field, in this order: its pad bits; its bits, where they come by no trellis; its
 -- certificate, where they come by one; its metric; its mark.
-abbrev pub field_tests : Option Code → Option (List ℤ) → Reading → List ℕ → List (Option FieldWhy)
-field_tests (Some code) (Some soft) reading bytes =
-    pad_fault (code.plan.steps - 4) bytes ∷ cert_fault code soft bytes
-    ∷ metric_fault reading.metric bytes ∷ mark_fault reading.mark bytes ∷ []
-field_tests code values reading bytes =
+abbrev pub plain_tests : Reading → List ℕ → List (Option FieldWhy)
+plain_tests reading bytes =
     pad_fault (length reading.bits) bytes ∷ bits_fault reading.bits bytes
     ∷ metric_fault reading.metric bytes ∷ mark_fault reading.mark bytes ∷ []
 
+abbrev pub coded_tests : CodePlan → List ℤ → Reading → List ℕ → List (Option FieldWhy)
+coded_tests plan soft reading bytes =
+    pad_fault (plan.steps - 4) bytes ∷ cert_fault plan soft bytes
+    ∷ metric_fault reading.metric bytes ∷ mark_fault reading.mark bytes ∷ []
+
+abbrev pub field_tests : Option Channel → Option (List ℤ) → Reading → List ℕ → List (Option FieldWhy)
+field_tests (Some channel) (Some soft) reading bytes = coded_tests channel.plan soft reading bytes
+field_tests (Some channel) None reading bytes = plain_tests reading bytes
+field_tests None values reading bytes = plain_tests reading bytes
+
 -- the first of its tests that fails
-unfoldable pub field_why : FrontField → List ℕ → Option FieldWhy
-field_why field bytes = first_of (field_tests (code_of field.name) field.soft (field_reading field) bytes)
+unfoldable pub field_why : List ℕ → FrontField → List ℕ → Option FieldWhy
+field_why rows field bytes =
+    first_of (field_tests (channel_of (reader field.name)) field.soft (field_reading rows field.name field.soft) bytes)
 
 -- the verdict where the field numbered i has this reason, and the later ones this verdict
 abbrev pub verdict_by : ℕ → Option FieldWhy → SlotVerdict → SlotVerdict
@@ -72,14 +83,13 @@ verdict_by i None later = later
 verdict_by i (Some why) later = Field i why
 
 -- the verdict on the fields, numbered from i on
-unfoldable pub fields_verdict : ℕ → List FrontField → List ℕ → SlotVerdict
-fields_verdict i [] bytes = Agrees
-fields_verdict i (field ∷ fields) bytes =
-    verdict_by i (field_why field (take (field_length field) bytes))
-    (fields_verdict (i + 1) fields (drop (field_length field) bytes))
+unfoldable pub fields_verdict : List ℕ → ℕ → List FrontField → List ℕ → SlotVerdict
+fields_verdict rows i [] bytes = Agrees
+fields_verdict rows i (field ∷ fields) bytes =
+    verdict_by i (field_why rows field (take (field_length field) bytes))
+    (fields_verdict rows (i + 1) fields (drop (field_length field) bytes))
 
--- the verdict on a claim: its letter is compared first. No field that is audited so far asks for the rows of the access
--- code
+-- the verdict on a claim: its letter is compared first. The rows are those of the access code
 unfoldable pub slot_verdict : Rows → Front → List ℕ → SlotVerdict
 slot_verdict rows front claim = cond (nat_eq (slice_index claim 0) front.letter)
-    (fields_verdict 0 front.fields.items (drop 1 claim)) Kind
+    (fields_verdict rows.0 0 front.fields.items (drop 1 claim)) Kind

@@ -2,6 +2,7 @@
 -- cites them.
 pub mod Best
 pub mod Digits
+pub mod InPlace
 pub mod Packing_lists
 pub mod Signs
 pub mod Within

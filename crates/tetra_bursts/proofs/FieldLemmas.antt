@@ -1,12 +1,14 @@
 -- What is read of the fields of undamaged bursts.
-use Rattle.std.proofs.Common.{◌≡◌, ℕ, ◌+◌, Bool, true, false, ℤ, List, [], ◌++◌, Option, Some, None, is_some, length, take, drop, refl, sym, ◌∙◌}
-use Rattle.std.proofs.lemmas.List.{append-nil}
+use Rattle.std.proofs.Common.{◌≤◌, ◌⊎◌, inl, inr, ◌∷◌, cond, arith, ◌≡◌, ℕ, ◌+◌, Bool, true, false, ℤ, List, [], ◌++◌, Option, Some, None, is_some, length, take, drop, refl, sym, ◌∙◌}
+use Rattle.std.proofs.lemmas.List.{append-nil, length-append, length-take-le, length-drop}
 use Rattle.tetra_bits.specs.Undamaged.{IsUndamaged}
-use Rattle.tetra_bursts.specs.Table.{normal_down, sync_down, normal_up, subslot, silence}
+use Rattle.tetra_bursts.specs.Table.{is_part, total, count_of, normal_down, sync_down, normal_up, control_up, subslot, silence}
 use Rattle.tetra_bursts.specs.Slot.{read}
 use Rattle.tetra_bursts.specs.Bursts.{blocks_down, synchronisation, blocks_up, downlink, normal_down_slot, sync_down_slot, normal_up_slot, control_up_slot, sub_bits, subs_table}
-use Rattle.tetra_bursts.specs.Fields.{first_half, second_half, sync_field, aach_field, aach_sync, sub_first, sub_second}
+use Rattle.tetra_bursts.specs.Fields.{halves, first_half, second_half, sync_field, aach_field, aach_sync, sub_first, sub_second, FieldsHaveSizes}
 use Rattle.tetra_bursts.specs.Arrives.{KeepsNormalDown, KeepsSyncDown, KeepsNormalUp, KeepsControlUp, WrittenArrives, NormalDownIsRead, SyncDownIsRead, NormalUpIsRead, FieldsArrive}
+use Rattle.tetra_bursts.specs.declared.table.Span.{Span}
+use Rattle.tetra_bursts.specs.declared.table.Part.{Part}
 use Rattle.tetra_bursts.specs.declared.table.Part.TheVariants.{First, Second, Aach, Sync}
 use Rattle.tetra_bursts.specs.declared.table.Train.{Train}
 use Rattle.tetra_bursts.specs.declared.table.Train.TheVariants.{N, P, Y}
@@ -109,4 +111,35 @@ fields_arrive = record {
   normal_up = normal_up_arrives;
   first_sub = first_sub_arrives;
   second_sub = second_sub_arrives;
+}
+
+one_size : (b : Bool) (n : ℕ) (values : List ℤ) → n ≤ length values → length (cond b (take n values) []) ≡ cond b n 0
+one_size true n values h = length-take-le n values h
+one_size false n values h = refl
+
+read_size : (part : Part) (table : List Span) (values : List ℤ) → total table ≤ length values → length (read part table values) ≡ count_of part table
+unfolding read
+read_size part [] values h = refl
+read_size part (s ∷ rest) values h =
+    let left = length-drop s.count values in
+    let behind : length (read part rest (drop s.count values)) ≡ count_of part rest = read_size part rest (drop s.count values) (omega arith) in
+    length-append (cond (is_part part s.part) (take s.count values) []) (read part rest (drop s.count values))
+    ∙ rw (one_size (is_part part s.part) s.count values (omega arith), behind) refl
+
+half_size : (part : Part) (dl : Bool) (soft : List ℤ) → length soft ≡ 510 → (part ≡ First) ⊎ (part ≡ Second) → length (read part (halves dl) soft) ≡ 216
+half_size part true soft h (inl e) = rw e (read_size First (normal_down N) soft (omega arith))
+half_size part true soft h (inr e) = rw e (read_size Second (normal_down N) soft (omega arith))
+half_size part false soft h (inl e) = rw e (read_size First (normal_up N) soft (omega arith))
+half_size part false soft h (inr e) = rw e (read_size Second (normal_up N) soft (omega arith))
+
+pub field_sizes : FieldsHaveSizes
+unfolding first_half second_half sync_field aach_field aach_sync sub_first sub_second
+field_sizes soft h = record {
+  block_1 = λ dl. half_size First dl soft h (inl refl);
+  block_2 = λ dl. half_size Second dl soft h (inr refl);
+  synchronisation = read_size Sync sync_down soft (omega arith);
+  access = read_size Aach (normal_down N) soft (omega arith);
+  access_sync = read_size Aach sync_down soft (omega arith);
+  subslot_1 = read_size First control_up soft (omega arith);
+  subslot_2 = read_size Second control_up soft (omega arith);
 }

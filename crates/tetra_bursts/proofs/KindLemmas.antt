@@ -1,8 +1,8 @@
 -- The kind of a slot is the only one, and that of an undamaged burst the one that was written.
 use Prim.Native.Nat.{zero, suc}
-use Rattle.std.proofs.Common.{◌≡◌, ℕ, ◌+◌, ◌<◌, ◌≤◌, ◌≢◌, Bool, true, false, not, nat_lt, if◌then◌else◌, ℤ, pos, negsuc, List, [], ◌++◌, length, take, drop, arith, refl, ◌∙◌, inl, inr}
+use Rattle.std.proofs.Common.{◌≡◌, ℕ, ◌+◌, ◌<◌, ◌≤◌, ◌≢◌, Bool, true, false, not, nat_lt, if◌then◌else◌, ℤ, pos, negsuc, List, length, take, drop, arith, refl, ◌∙◌, inl, inr}
 use Rattle.std.proofs.lemmas.Bool.{cases_lt, lt-ltb, le-ltb}
-use Rattle.std.proofs.lemmas.List.{get_or-take, get_or-drop, length-take-le, length-drop, append-nil}
+use Rattle.std.proofs.lemmas.List.{get_or-take, get_or-drop, length-take-le, length-drop}
 use Rattle.tetra_bits.specs.Cost.{cost, cost_at, metric}
 use Rattle.tetra_bits.specs.Order.{bit_at}
 use Rattle.tetra_bits.specs.Soft.{value_at}
@@ -19,7 +19,7 @@ use Rattle.tetra_bursts.specs.declared.table.Train.{Train}
 use Rattle.tetra_bursts.specs.declared.table.Train.TheVariants.{N, P, Y}
 use Rattle.tetra_bursts.proofs.Arriving.{sent_bits, part_arrives}
 use Rattle.tetra_bursts.proofs.FieldLemmas.{whole}
-use Rattle.tetra_bursts.proofs.ReadLemmas.{read_both}
+use Rattle.tetra_bursts.proofs.TrainingLemmas.{n_down, p_down, y_down, n_up, p_up}
 
 -- of two kinds neither stands before the other
 before_not : (soft : List ℤ) (dl : Bool) (allowed : Allowed) (a b : Train) → IsKind soft dl allowed a → IsKind soft dl allowed b
@@ -65,31 +65,13 @@ one_costs bits values k inside h =
     omega (arith, term, some)
 
 -- a value of the other sign at one place of a part that stands in one span behind others
-place_costs : (bits : List Bool) (values received : List ℤ) (before n k : ℕ) → values ≡ take n (drop before received) ++ []
+place_costs : (bits : List Bool) (values received : List ℤ) (before n k : ℕ) → values ≡ take n (drop before received)
     → before + n ≤ length received → k < n → HasSign (not (bit_at bits k)) (value_at received (before + k)) → 0 < metric values bits
 place_costs bits values received before n k e fits h sign =
     let size : length (take n (drop before received)) ≡ n = length-take-le n (drop before received) (rw (length-drop before received) (omega arith)) in
-    let same : values ≡ take n (drop before received) = e ∙ append-nil (take n (drop before received)) in
     let value : value_at (take n (drop before received)) k ≡ value_at received (before + k) =
     get_or-take n (drop before received) k (pos 0) h ∙ get_or-drop before received k (pos 0) in
-    rw same (one_costs bits (take n (drop before received)) k (omega arith) (rw value sign))
-
--- the values of the training sequences
-training_down : (train : Train) (received : List ℤ) → (train ≢ Y) → read (Training train) (normal_down train) received ≡ take 22 (drop 244 received) ++ []
-unfolding read
-training_down N received h = read_both (Training N) (take 4 (normal_down N)) (drop 4 (normal_down N)) received
-training_down P received h = read_both (Training P) (take 4 (normal_down P)) (drop 4 (normal_down P)) received
-training_down Y received h = absurd (h refl)
-
-training_sync : (received : List ℤ) → read (Training Y) sync_down received ≡ take 38 (drop 214 received) ++ []
-unfolding read
-training_sync received = read_both (Training Y) (take 4 sync_down) (drop 4 sync_down) received
-
-training_up : (train : Train) (received : List ℤ) → (train ≢ Y) → read (Training train) (normal_up train) received ≡ take 22 (drop 254 received) ++ []
-unfolding read
-training_up N received h = read_both (Training N) (take 3 (normal_up N)) (drop 3 (normal_up N)) received
-training_up P received h = read_both (Training P) (take 3 (normal_up P)) (drop 3 (normal_up P)) received
-training_up Y received h = absurd (h refl)
+    rw e (one_costs bits (take n (drop before received)) k (omega arith) (rw value sign))
 
 -- the written sequence costs nothing
 own_free : (carried : Carried) (dl : Bool) (train : Train) (received : List ℤ) → KeepsBy carried (burst_with dl train) received
@@ -135,28 +117,28 @@ others_cost carried dl P P received t o h differ = absurd (differ refl)
 others_cost carried dl Y Y received t o h differ = absurd (differ refl)
 others_cost carried true N P received t o h differ =
     let size : length received ≡ 510 = h.size in
-    place_costs (text_bits (text (Training P))) (read (Training P) (normal_down P) received) received 244 22 0 (training_down P received p_not_y) (omega arith) (omega arith) (h.signs 245 (omega arith) (omega arith) refl)
+    place_costs (text_bits (text (Training P))) (read (Training P) (normal_down P) received) received 244 22 0 (p_down received) (omega arith) (omega arith) (h.signs 245 (omega arith) (omega arith) refl)
 others_cost carried true N Y received t o h differ =
     let size : length received ≡ 510 = h.size in
-    place_costs (text_bits (text (Training Y))) (read (Training Y) sync_down received) received 214 38 30 (training_sync received) (omega arith) (omega arith) (h.signs 245 (omega arith) (omega arith) refl)
+    place_costs (text_bits (text (Training Y))) (read (Training Y) sync_down received) received 214 38 30 (y_down received) (omega arith) (omega arith) (h.signs 245 (omega arith) (omega arith) refl)
 others_cost carried true P N received t o h differ =
     let size : length received ≡ 510 = h.size in
-    place_costs (text_bits (text (Training N))) (read (Training N) (normal_down N) received) received 244 22 0 (training_down N received n_not_y) (omega arith) (omega arith) (h.signs 245 (omega arith) (omega arith) refl)
+    place_costs (text_bits (text (Training N))) (read (Training N) (normal_down N) received) received 244 22 0 (n_down received) (omega arith) (omega arith) (h.signs 245 (omega arith) (omega arith) refl)
 others_cost carried true P Y received t o h differ =
     let size : length received ≡ 510 = h.size in
-    place_costs (text_bits (text (Training Y))) (read (Training Y) sync_down received) received 214 38 33 (training_sync received) (omega arith) (omega arith) (h.signs 248 (omega arith) (omega arith) refl)
+    place_costs (text_bits (text (Training Y))) (read (Training Y) sync_down received) received 214 38 33 (y_down received) (omega arith) (omega arith) (h.signs 248 (omega arith) (omega arith) refl)
 others_cost carried true Y N received t o h differ =
     let size : length received ≡ 510 = h.size in
-    place_costs (text_bits (text (Training N))) (read (Training N) (normal_down N) received) received 244 22 0 (training_down N received n_not_y) (omega arith) (omega arith) (h.signs 245 (omega arith) (omega arith) refl)
+    place_costs (text_bits (text (Training N))) (read (Training N) (normal_down N) received) received 244 22 0 (n_down received) (omega arith) (omega arith) (h.signs 245 (omega arith) (omega arith) refl)
 others_cost carried true Y P received t o h differ =
     let size : length received ≡ 510 = h.size in
-    place_costs (text_bits (text (Training P))) (read (Training P) (normal_down P) received) received 244 22 3 (training_down P received p_not_y) (omega arith) (omega arith) (h.signs 248 (omega arith) (omega arith) refl)
+    place_costs (text_bits (text (Training P))) (read (Training P) (normal_down P) received) received 244 22 3 (p_down received) (omega arith) (omega arith) (h.signs 248 (omega arith) (omega arith) refl)
 others_cost carried false N P received t o h differ =
     let size : length received ≡ 510 = h.size in
-    place_costs (text_bits (text (Training P))) (read (Training P) (normal_up P) received) received 254 22 0 (training_up P received p_not_y) (omega arith) (omega arith) (h.signs 255 (omega arith) (omega arith) refl)
+    place_costs (text_bits (text (Training P))) (read (Training P) (normal_up P) received) received 254 22 0 (p_up received) (omega arith) (omega arith) (h.signs 255 (omega arith) (omega arith) refl)
 others_cost carried false P N received t o h differ =
     let size : length received ≡ 510 = h.size in
-    place_costs (text_bits (text (Training N))) (read (Training N) (normal_up N) received) received 254 22 0 (training_up N received n_not_y) (omega arith) (omega arith) (h.signs 255 (omega arith) (omega arith) refl)
+    place_costs (text_bits (text (Training N))) (read (Training N) (normal_up N) received) received 254 22 0 (n_up received) (omega arith) (omega arith) (h.signs 255 (omega arith) (omega arith) refl)
 others_cost carried false N Y received t o h differ = let e : false ≡ true = o refl in cc
 others_cost carried false P Y received t o h differ = let e : false ≡ true = o refl in cc
 others_cost carried false Y N received t o h differ = let e : false ≡ true = t refl in cc

@@ -4,10 +4,9 @@ use Rattle.tetra_bits.specs.Readings.{entry}
 use Rattle.tetra_mother.specs.Mother.{next_state}
 use Rattle.tetra_puncture.specs.Plan.{CodePlan}
 use Rattle.tetra_puncture.specs.Rules.{Holds}
-use Rattle.tetra_puncture.specs.Trellis.{over_branch, bit_taken, state_passed}
+use Rattle.tetra_puncture.specs.Trellis.{step_cost, over_branch, bit_taken, state_passed}
 use Rattle.tetra_puncture.specs.declared.rule.Rule.{Rule}
 use Rattle.tetra_puncture.specs.declared.rule.Rule.TheVariants.{End, Edge0, Edge1, Path, Tie}
-use Rattle.tetra_cert.specs.Labels.{HasStepCosts}
 
 -- what was found of the rows of step t
 pub record StepFound (p : CodePlan) (m : List Bool) (t path : ℕ) (row after zero one : List ℕ) : Type 0 where
@@ -20,9 +19,10 @@ pub record StepFound (p : CodePlan) (m : List Bool) (t path : ℕ) (row after ze
 -- so the rules hold
 pub step_rules : (p : CodePlan) (wide : List ℤ) (m : List Bool) (table : List (List ℕ)) (t path : ℕ) (row after zero one : List ℕ) →
     t < p.steps → path < 16 → path ≡ state_passed m t → row ≡ get_or table t [] → after ≡ get_or table (t + 1) [] →
-    HasStepCosts p wide t false zero → HasStepCosts p wide t true one → StepFound p m t path row after zero one →
+    ((s : ℕ) → s < 16 → get_or zero s 0 ≡ step_cost p wide t s false) →
+    ((s : ℕ) → s < 16 → get_or one s 0 ≡ step_cost p wide t s true) → StepFound p m t path row after zero one →
     (s : ℕ) (rule : Rule) → s < 16 → Holds p wide m table t s rule
-unfolding Holds HasStepCosts over_branch entry
+unfolding Holds over_branch entry
 step_rules p wide m table t path row after zero one inside small passed er ea cz co f s rule lt = at rule
   where
     here : (s : ℕ) → entry table t s ≡ get_or row s 0

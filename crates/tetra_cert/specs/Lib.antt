@@ -1,3 +1,3 @@
 pub mod Checked
-pub mod Labels
 pub mod Verdicts
+pub mod lemmas

@@ -1,19 +1,19 @@
 // A message and its table, step by step.
 ghost use Rattle.std.specs.Prelude.{◌≡◌, ◌<◌, ◌≤◌, ◌+◌, ◌*◌, true, false, length};
+ghost use Rattle.tetra_puncture.specs.Labels.{HasLabels};
 ghost use Rattle.tetra_puncture.specs.Plan.{IsMessage};
 ghost use Rattle.tetra_puncture.specs.Rules.{IsAccepted};
 ghost use Rattle.tetra_puncture.specs.Spread.{spread_values};
 ghost use Rattle.tetra_puncture.specs.Trellis.{state_passed};
 ghost use Rattle.tetra_cert.specs.Checked.{IsRight, IsSound, IsFirstOfStates};
-ghost use Rattle.tetra_cert.specs.Labels.{HasLabels};
 ghost use Rattle.tetra_cert.specs.Verdicts.{verdict_of};
 
 use crate::rules::{Failing, first_of_states, taken};
-use crate::steps::{Branches, branches_of, step_holds};
+use crate::steps::step_holds;
 use crate::verdict::Verdict;
 use tetra_bits::{Bits, Potentials, Soft, Wide};
 use tetra_mother::next;
-use tetra_puncture::{Plan, spread};
+use tetra_puncture::{Labels, Plan, spread};
 
 /// Whether `potentials`, whoever made them, show that `message` is the first-least message over the
 /// received values `soft`. There are `SENT` values, `STEPS - 4` bits and `STEPS + 1` rows. The sums
@@ -34,11 +34,11 @@ pub fn check<P: Plan>(soft: &Soft, message: &Bits, potentials: &Potentials) -> V
         → result ≡ Verdict.Accepted }
 {
     let wide = spread::<P>(soft);
-    let branches = branches_of::<P::Code>();
+    let labels = Labels::of::<P::Code>();
     let mut path = 0;
     for t in 0..P::STEPS + 1 {
         if let Some(Failing { state, rule }) = failing_at::<P>(
-            &wide, message, potentials, t, path, &branches,
+            &wide, &labels, message, potentials, t, path,
         ) {
             return Verdict::Refused {
                 step: t as u16,
@@ -55,24 +55,23 @@ pub fn check<P: Plan>(soft: &Soft, message: &Bits, potentials: &Potentials) -> V
 /// is first tried at all states at once, and state by state only where that does not show that all rules hold.
 fn failing_at<P: Plan>(
     wide: &Wide,
+    labels: &Labels,
     message: &Bits,
     table: &Potentials,
     t: usize,
     path: u8,
-    branches: &Branches,
 ) -> Option<Failing>
     requires sound { P.IsSound }
     requires size { length wide.now ≡ P.plan.outs * P.plan.steps }
+    requires labels { HasLabels P.plan.taps P.plan.outs labels.now }
     requires rows { length table.now ≡ P.plan.steps + 1 }
     requires step { t ≤ P.plan.steps }
     requires small { path < 16 }
     requires path { path ≡ state_passed message.now t }
-    requires zero { HasLabels P.plan.taps P.plan.outs false branches.now.zero }
-    requires one { HasLabels P.plan.taps P.plan.outs true branches.now.one }
     ensures { IsFirstOfStates P.plan wide.now message.now table.now t result }
 {
-    if t < P::STEPS && step_holds::<P>(wide, message, table, t, path, branches) {
+    if t < P::STEPS && step_holds::<P>(wide, labels, message, table, t, path) {
         return None;
     }
-    first_of_states::<P>(wide, message, table, t, path)
+    first_of_states::<P>(wide, labels, message, table, t, path)
 }

@@ -20,25 +20,7 @@ pub fn behind_one(row: &[u32; 16]) -> u32x16
     u32x16::from_array(*row).swizzle([8, 8, 9, 9, 10, 10, 11, 11, 12, 12, 13, 13, 14, 14, 15, 15])
 }
 
-/// The bytes of a table at these places.
-pub fn looked_up(table: &[u8; 16], places: &[u8; 16]) -> u8x16
-    requires { (s : ℕ) → s < 16 → slice_index places.now s < 16 }
-    ensures long { length result ≡ 16 }
-    ensures value { (s : ℕ) → s < 16 → slice_index result s ≡ slice_index table.now (slice_index places.now s) }
-{
-    u8x16::from_array(*table).swizzle_dyn(u8x16::from_array(*places))
-}
-
-/// The same numbers in wider lanes.
-pub fn widened(a: u8x16) -> u32x16
-    requires { length a ≡ 16 }
-    ensures long { length result ≡ 16 }
-    ensures value { (s : ℕ) → s < 16 → slice_index result s ≡ slice_index a s }
-    ensures small { (s : ℕ) → s < 16 → slice_index result s < 256 }
-{
-    a.cast::<u32>()
-}
-
+/// The sums of the lanes.
 pub fn added(a: u32x16, b: u32x16) -> u32x16
     requires long { (length a ≡ 16) × (length b ≡ 16) }
     requires fits { (s : ℕ) → s < 16 → slice_index a s + slice_index b s < 2 ^ 32 }

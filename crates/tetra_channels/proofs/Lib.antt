@@ -1,3 +1,4 @@
 pub mod Sizes
 pub mod Readings
 pub mod Undamaged
+pub mod Plain

@@ -1,3 +1,4 @@
 pub mod Channels
 pub mod Fields
 pub mod Laws
+pub mod Aliases

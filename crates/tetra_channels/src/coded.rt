@@ -1,18 +1,21 @@
 // Coded channels.
 ghost use Rattle.std.specs.Prelude.{◌≡◌, ◌+◌, false, pos, length};
-ghost use Rattle.tetra_interleave.specs.Block.{IsInterleaved};
+ghost use Rattle.tetra_interleave.specs.Block.{block_place};
+ghost use Rattle.tetra_interleave.specs.Placed.{IsPlaced};
+ghost use Rattle.tetra_parity.specs.Marks.{IsMarked};
 ghost use Rattle.tetra_puncture.specs.Best.{IsFirstLeast};
 ghost use Rattle.tetra_scramble.specs.Flips.{flipped, turned};
-ghost use Rattle.tetra_channels.specs.Channels.{IsChannel, type3_bits, type5_bits, front_values};
-ghost use Rattle.tetra_channels.specs.Fields.{coded_reading, IsMarked};
+ghost use Rattle.tetra_channels.specs.Channels.{IsChannel, coded, parity_of, type3_bits, type5_bits, front_values};
+ghost use Rattle.tetra_channels.specs.Fields.{coded_reading, IsSized, IsBoundedBy};
 ghost use Rattle.tetra_channels.specs.Laws.{UndamagedIsRead};
 
-use crate::message::{mark, message};
+use crate::message::parity_of;
 use std::marker::PhantomData;
 use tetra_bits::{Bits, Mark, Potentials, Reading, Soft};
-use tetra_interleave::Block;
-use tetra_puncture::{Plan, TwoThirds, keep};
-use tetra_scramble::{Key, flip_bits, flip_soft};
+use tetra_interleave::{Block, blocks_are_one_to_one, stay_undamaged};
+use tetra_parity::{blocks_are_good, mark, with_parity};
+use tetra_puncture::{P148, P292, Plan, TwoThirds, keep};
+use tetra_scramble::{Key, flip_bits, flip_soft, flipped_back, stays_undamaged};
 use tetra_trellis::solve_into;
 
 /// A coded channel (EN 300 392-2 clause 8): `PAR` parity bits, 16 or none, the plan `P` of its code,
@@ -34,6 +37,12 @@ pub type Half = Coded<16, 216, 101, 77, TwoThirds<144, 216>>;
 /// SCH/F: blocks of 268 bits, 432 are sent.
 pub type Full = Coded<16, 432, 103, 151, TwoThirds<288, 432>>;
 
+/// TCH/4.8: blocks of 288 bits without parity, 432 are sent, spread over one, four or eight slots.
+pub type Data48 = Coded<0, 432, 103, 151, P292>;
+
+/// TCH/2.4: blocks of 144 bits without parity, 432 are sent, spread over one, four or eight slots.
+pub type Data24 = Coded<0, 432, 103, 151, P148>;
+
 impl<const PAR: usize, const K3: usize, const A: usize, const INV: usize, P: Plan> Coded<
     PAR,
     K3,
@@ -45,18 +54,19 @@ impl<const PAR: usize, const K3: usize, const A: usize, const INV: usize, P: Pla
     pub fn type3(block: &Bits) -> Bits
         requires channel { IsChannel P.IsSound PAR K3 A INV P.plan }
         requires size { length block.now + PAR + 4 ≡ P.STEPS }
-        ensures bits { result ≡ type3_bits PAR P.plan block.now }
+        ensures bits { result ≡ type3_bits (coded PAR A P.plan) block.now }
         ensures size { length result ≡ K3 }
     {
-        keep::<P>(&message::<PAR>(block))
+        keep::<P>(&with_parity(parity_of::<PAR>(), block))
     }
 
     /// The type-5 bits of a block: its type-3 bits interleaved, and scrambled from key bit 1 on. There are `K3`.
     pub fn encode(block: &Bits, key: &Key) -> Bits
         requires channel { IsChannel P.IsSound PAR K3 A INV P.plan }
         requires size { length block.now + PAR + 4 ≡ P.STEPS }
-        ensures bits { result ≡ type5_bits PAR INV P.plan key.now block.now }
-        ensures placed { IsInterleaved false K3 A (type3_bits PAR P.plan block.now) (flipped result key.now 1) }
+        ensures bits { result ≡ type5_bits (coded PAR A P.plan) key.now block.now }
+        ensures placed { IsPlaced false K3 (block_place K3 A) (type3_bits (coded PAR A P.plan) block.now)
+            (flipped result key.now 1) }
         ensures size { length result ≡ K3 }
     {
         let interleaved = Block::<K3, A, INV>::bits_out(&Self::type3(block));
@@ -67,8 +77,8 @@ impl<const PAR: usize, const K3: usize, const A: usize, const INV: usize, P: Pla
     pub fn front(soft: &Soft, key: &Key) -> Soft
         requires channel { IsChannel P.IsSound PAR K3 A INV P.plan }
         requires size { length soft.now ≡ K3 }
-        ensures values { result ≡ front_values K3 A key.now soft.now }
-        ensures placed { IsInterleaved (pos 0) K3 A result (turned soft.now key.now 1) }
+        ensures values { result ≡ front_values (coded PAR A P.plan) key.now soft.now }
+        ensures placed { IsPlaced (pos 0) K3 (block_place K3 A) result (turned soft.now key.now 1) }
         ensures size { length result ≡ K3 }
     {
         let mut values = Soft::new();
@@ -80,8 +90,8 @@ impl<const PAR: usize, const K3: usize, const A: usize, const INV: usize, P: Pla
     pub fn front_into(soft: &Soft, key: &Key, values: &mut Soft)
         requires channel { IsChannel P.IsSound PAR K3 A INV P.plan }
         requires size { length soft.now ≡ K3 }
-        ensures values { values.new ≡ front_values K3 A key.now soft.now }
-        ensures placed { IsInterleaved (pos 0) K3 A values.new (turned soft.now key.now 1) }
+        ensures values { values.new ≡ front_values (coded PAR A P.plan) key.now soft.now }
+        ensures placed { IsPlaced (pos 0) K3 (block_place K3 A) values.new (turned soft.now key.now 1) }
         ensures size { length values.new ≡ K3 }
     {
         Block::<K3, A, INV>::soft_back_into(&flip_soft(soft, key, 1), values);
@@ -93,9 +103,11 @@ impl<const PAR: usize, const K3: usize, const A: usize, const INV: usize, P: Pla
     pub fn decode3(soft: &Soft) -> Reading
         requires channel { IsChannel P.IsSound PAR K3 A INV P.plan }
         requires size { length soft.now ≡ K3 }
-        ensures reading { result ≡ coded_reading PAR P.plan soft.now }
+        ensures reading { result ≡ coded_reading (coded PAR A P.plan) soft.now }
         ensures first_least { IsFirstLeast P.plan soft.now result.bits }
-        ensures marked { IsMarked PAR result.mark result.bits }
+        ensures marked { IsMarked (parity_of PAR) result.mark result.bits }
+        ensures sized { IsSized P.plan result }
+        ensures bounded { IsBoundedBy P.plan soft.now result }
     {
         let mut reading = Reading {
             mark: Mark::Unchecked,
@@ -111,19 +123,27 @@ impl<const PAR: usize, const K3: usize, const A: usize, const INV: usize, P: Pla
     pub fn decode3_into(soft: &Soft, reading: &mut Reading)
         requires channel { IsChannel P.IsSound PAR K3 A INV P.plan }
         requires size { length soft.now ≡ K3 }
-        ensures reading { reading.new ≡ coded_reading PAR P.plan soft.now }
+        ensures reading { reading.new ≡ coded_reading (coded PAR A P.plan) soft.now }
         ensures first_least { IsFirstLeast P.plan soft.now reading.new.bits }
-        ensures marked { IsMarked PAR reading.new.mark reading.new.bits }
+        ensures marked { IsMarked (parity_of PAR) reading.new.mark reading.new.bits }
+        ensures sized { IsSized P.plan reading.new }
+        ensures bounded { IsBoundedBy P.plan soft.now reading.new }
     {
         let potentials = reading.potentials.get_or_insert_with(Potentials::new);
         reading.metric = solve_into::<P>(soft, &mut reading.bits, potentials);
-        reading.mark = mark::<PAR>(&reading.bits);
+        reading.mark = mark(parity_of::<PAR>(), &reading.bits);
     }
 
     /// Values that have the signs of the type-5 bits of a block, none of them 0, are read as that block
     /// with its parity, with metric 0 and, where the channel has parity, Good.
     pub fn undamaged_is_read()
         requires { IsChannel P.IsSound PAR K3 A INV P.plan }
-        ensures { UndamagedIsRead PAR A INV P.plan }
-    {}
+        ensures { UndamagedIsRead (coded PAR A P.plan) }
+    {
+        flipped_back();
+        stays_undamaged();
+        stay_undamaged();
+        blocks_are_one_to_one();
+        blocks_are_good();
+    }
 }

@@ -3,11 +3,15 @@
 //! received soft values to the first-least message. Nothing here takes memory.
 #![tactic(auto)]
 
+mod access;
 mod coded;
+mod laws;
 mod message;
 mod raw;
 
-pub use coded::{Bsch, Coded, Full, Half, Hu};
+pub use access::Aach;
+pub use coded::{Bsch, Coded, Data24, Data48, Full, Half, Hu};
+pub use laws::aliases_are_channels;
 pub use raw::Raw72;
 
 #[cfg(test)]

@@ -5,7 +5,7 @@ ghost use Rattle.tetra_channels.specs.Fields.{raw_reading};
 ghost use Rattle.tetra_channels.specs.Laws.{UndamagedRawIsRead};
 
 use tetra_bits::{Bits, Mark, Reading, Soft, read_plain};
-use tetra_scramble::{Key, flip_bits};
+use tetra_scramble::{Key, flip_bits, flipped_back, stays_undamaged};
 
 /// TCH/7.2: a block of 432 bits that is only scrambled (EN 300 392-2 clause 8).
 pub struct Raw72;
@@ -25,7 +25,8 @@ impl Raw72 {
     #[tactic(auto, unfolding(crate::specs::Fields::raw_reading))]
     pub fn decode1(soft: &Soft) -> Reading
         requires { length soft.now ≡ 432 }
-        ensures { result ≡ raw_reading soft.now }
+        ensures reading { result ≡ raw_reading soft.now }
+        ensures size { length result.bits ≡ 432 }
     {
         Reading {
             mark: Mark::Unchecked,
@@ -39,7 +40,8 @@ impl Raw72 {
     #[tactic(auto, unfolding(crate::specs::Fields::raw_reading))]
     pub fn decode1_into(soft: &Soft, reading: &mut Reading)
         requires { length soft.now ≡ 432 }
-        ensures { reading.new ≡ raw_reading soft.now }
+        ensures reading { reading.new ≡ raw_reading soft.now }
+        ensures size { length reading.new.bits ≡ 432 }
     {
         reading.mark = Mark::Unchecked;
         reading.metric = 0;
@@ -50,5 +52,8 @@ impl Raw72 {
     /// Values that have the signs of the type-5 bits of a block, none of them 0, are read as that block.
     pub fn undamaged_is_read()
         ensures { UndamagedRawIsRead }
-    {}
+    {
+        flipped_back();
+        stays_undamaged();
+    }
 }

@@ -64,6 +64,38 @@ impl Mother for Quarter {
     }
 }
 
+/// The mother code of speech, of rate 1/3 (this project's own numbers, after EN 300 395-2 clause 5):
+///
+/// | generator | polynomial |
+/// |---|---|
+/// | G1 | `1 + D + D^2 + D^3 + D^4` |
+/// | G2 | `1 + D + D^3 + D^4` |
+/// | G3 | `1 + D^2 + D^4` |
+pub struct Third;
+
+impl Mother for Third {
+    ghost use Rattle.tetra_mother.specs.Generators.{third};
+    ghost use Rattle.std.proofs.Common.{rules};
+
+    ghost OUTS = { 3 };
+
+    ghost taps = { third };
+
+    ghost few = { Prim.search rules };
+
+    const OUTS: usize = 3;
+
+    fn tap(i: usize, j: usize) -> bool {
+        // The row of a generator, from D^0 to D^4.
+        const TAPS: [[bool; 5]; 3] = [
+            [true, true, true, true, true],
+            [true, true, false, true, true],
+            [true, false, true, false, true],
+        ];
+        TAPS[i - 1][j]
+    }
+}
+
 /// Output `out` of step `step` for the bits that go in, by the sum that defines it. Steps and
 /// outputs are counted from 1, so that step `k` takes `bits[k - 1]`.
 pub fn code<M: Mother>(bits: &[bool], step: usize, out: usize) -> bool
@@ -132,7 +164,7 @@ fn output_of<M: Mother>(state: u8, bit: bool, out: usize) -> bool
 // set, G2 skips its own D.
 #[cfg(test)]
 mod tests {
-    use super::{Quarter, code, next, outs};
+    use super::{Quarter, Third, code, next, outs};
 
     #[test]
     fn one_bit_writes_a_generator(rt: HostRuntime) {
@@ -141,5 +173,7 @@ mod tests {
         assert!(rt; !code::<Quarter>(&bits, 2, 2));
         assert!(rt; outs::<Quarter>(0, true)[1]);
         assert!(rt; !outs::<Quarter>(next(0, true), false)[1]);
+        assert!(rt; code::<Third>(&bits, 2, 2));
+        assert!(rt; !code::<Third>(&bits, 2, 3));
     }
 }

@@ -1,3 +1,6 @@
-pub mod Rests
-pub mod Blocks
+pub mod Held
 pub mod Messages
+pub mod Numbers
+pub mod Rests
+pub mod Shifts
+pub mod Sums

@@ -53,7 +53,7 @@ module _ (d g : ℕ) (low : 2 ^ d ≤ g) (high : g < 2 * 2 ^ d) where
     | inr ge ↦ let t : nat_lt p (2 ^ d) ≡ false = le-ltb p (2 ^ d) ge in rw t (top_leaves d p g ge h low high)
   ]
 
-  reduced_below : (p : ℕ) → p < 2 ^ d → reduced d g p ≡ p
+  pub reduced_below : (p : ℕ) → p < 2 ^ d → reduced d g p ≡ p
   unfolding reduced
   reduced_below p l = let t : nat_lt p (2 ^ d) ≡ true = lt-ltb p (2 ^ d) l in rw t refl
 
@@ -62,7 +62,7 @@ module _ (d g : ℕ) (low : 2 ^ d ≤ g) (high : g < 2 * 2 ^ d) where
   reduced_above p ge = let t : nat_lt p (2 ^ d) ≡ false = le-ltb p (2 ^ d) ge in rw t refl
 
   -- the rest of a sum is the sum of the rests
-  reduced-xor : (p q : ℕ) → p < 2 * 2 ^ d → q < 2 * 2 ^ d → reduced d g (bit_xor p q) ≡ bit_xor (reduced d g p) (reduced d g q)
+  pub reduced-xor : (p q : ℕ) → p < 2 * 2 ^ d → q < 2 * 2 ^ d → reduced d g (bit_xor p q) ≡ bit_xor (reduced d g p) (reduced d g q)
   reduced-xor p q lp lq = elim (cases_lt p (2 ^ d)) [
     | inl sp ↦ elim (cases_lt q (2 ^ d)) [
       | inl sq ↦ reduced_below (bit_xor p q) (xor_lt d p q sp sq) ∙ sym (rw (reduced_below p sp, reduced_below q sq) refl)

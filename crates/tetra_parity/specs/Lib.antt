@@ -1,1 +1,4 @@
+pub mod Marks
 pub mod Parity
+pub mod Register
+pub mod lemmas

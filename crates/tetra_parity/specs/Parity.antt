@@ -1,10 +1,15 @@
--- The parity of the block code (K1 + 16, K1), EN 300 392-2 clause 8.2.3.3. Bits of a block are numbered from 1.
+-- Parity: 16 bits behind the blocks of the signalling channels, the block code (K1 + 16, K1) of EN 300 392-2 clause
+-- 8.2.3.3; 8 and 4 bits behind those of speech in whole and in half slots, this project's own. Bits of a block are
+-- numbered from 1.
 use Prim.Native.Nat.{zero, suc}
 use Rattle.std.specs.Prelude.{◌≡◌, ℕ, ◌+◌, ◌-◌, Bool, true, false, ◌&&◌, cond, bit_xor, List, [], ◌∷◌, ◌++◌, length, take, drop}
 use Rattle.std.proofs.Math.Bool.{beq}
 use Rattle.tetra_bits.specs.Order.{bit_at}
 use Rattle.tetra_bits.specs.Digits.{digits}
 use Rattle.tetra_bits.specs.Polynomials.{power_rest}
+use Rattle.tetra_bits.specs.Sums.{add2}
+use Rattle.tetra_parity.specs.declared.kind.Parity.{Parity}
+use Rattle.tetra_parity.specs.declared.kind.Parity.TheVariants.{Nothing, Four, Eight, Sixteen}
 
 -- the sum of the polynomials f 1 to f n
 unfoldable pub poly_sum : ℕ → (ℕ → ℕ) → ℕ
@@ -19,11 +24,36 @@ block_term d generator block k = cond (bit_at block (k - 1)) (power_rest d gener
 unfoldable pub block_rest : ℕ → ℕ → List Bool → ℕ
 block_rest d generator block = poly_sum (length block) (block_term d generator block)
 
--- G(X) = X^16 + X^12 + X^5 + 1
+-- X^4 + X + 1
+unfoldable pub generator4 : ℕ
+generator4 = 0b1_0011
+
+-- X^7 + X^3 + 1
+unfoldable pub generator7 : ℕ
+generator7 = 0b1000_1001
+
+-- X^16 + X^12 + X^5 + 1
 unfoldable pub generator16 : ℕ
 generator16 = 0b1_0001_0000_0010_0001
 
--- X^K1 X^(16 - i) modulo G(X)
+-- four bits: the coefficients of X^4 M(X) modulo X^4 + X + 1, the highest first
+unfoldable pub parity_bits4 : List Bool → List Bool
+parity_bits4 block = digits 4 (block_rest 4 generator4 block)
+
+-- seven bits: the coefficients of X^7 M(X) modulo X^7 + X^3 + 1, the highest first
+unfoldable pub seven_bits : List Bool → List Bool
+seven_bits block = digits 7 (block_rest 7 generator7 block)
+
+-- the sum of bits modulo 2
+unfoldable pub sum_of : List Bool → Bool
+sum_of [] = false
+sum_of (bit ∷ bits) = add2 bit (sum_of bits)
+
+-- eight bits: the seven and the overall bit, the sum of the block and of the seven
+unfoldable pub parity_bits8 : List Bool → List Bool
+parity_bits8 block = seven_bits block ++ sum_of (block ++ seven_bits block) ∷ []
+
+-- X^K1 X^(16 - i) modulo G(X) = X^16 + X^12 + X^5 + 1
 unfoldable pub ones_term : ℕ → ℕ → ℕ
 ones_term size i = power_rest 16 generator16 (size + 16 - i)
 
@@ -35,21 +65,36 @@ ones_rest size = poly_sum 16 (ones_term size)
 unfoldable pub parity16 : List Bool → ℕ
 parity16 block = bit_xor (bit_xor (block_rest 16 generator16 block) (ones_rest (length block))) 0xFFFF
 
--- the coefficients of F(X), the highest first
+-- sixteen bits: the coefficients of F(X), the highest first
 unfoldable pub parity_bits16 : List Bool → List Bool
 parity_bits16 block = digits 16 (parity16 block)
 
+-- the number of parity bits
+abbrev pub width : Parity → ℕ
+width Nothing = 0
+width Four = 4
+width Eight = 8
+width Sixteen = 16
+
+-- the parity of a block
+unfoldable pub parity_bits : Parity → List Bool → List Bool
+parity_bits Nothing block = []
+parity_bits Four block = parity_bits4 block
+parity_bits Eight block = parity_bits8 block
+parity_bits Sixteen block = parity_bits16 block
+
 -- a block followed by its parity
-unfoldable pub with_parity16 : List Bool → List Bool
-with_parity16 block = block ++ parity_bits16 block
+unfoldable pub with_parity : Parity → List Bool → List Bool
+with_parity parity block = block ++ parity_bits parity block
 
--- the bits before the last sixteen
-unfoldable pub before16 : List Bool → List Bool
-before16 message = take (length message - 16) message
+-- the number of bits before the parity of a message
+unfoldable pub block_size : Parity → List Bool → ℕ
+block_size parity message = length message - width parity
 
--- parity holds: the last sixteen bits are the parity of those before
-unfoldable pub Holds16 : List Bool → Type 0
-Holds16 message = drop (length message - 16) message ≡ parity_bits16 (before16 message)
+-- parity holds: the last bits are the parity of those before
+unfoldable pub Holds : Parity → List Bool → Type 0
+Holds parity message =
+    let size = block_size parity message in drop size message ≡ parity_bits parity (take size message)
 
 -- whether two lists of bits are the same
 unfoldable pub same_bits : List Bool → List Bool → Bool
@@ -59,14 +104,15 @@ same_bits (x ∷ xs) [] = false
 same_bits (x ∷ xs) (y ∷ ys) = beq x y && same_bits xs ys
 
 -- whether parity holds
-unfoldable pub holds16_of : List Bool → Bool
-holds16_of message = same_bits (drop (length message - 16) message) (parity_bits16 (before16 message))
+unfoldable pub holds_of : Parity → List Bool → Bool
+holds_of parity message =
+    let size = block_size parity message in same_bits (drop size message) (parity_bits parity (take size message))
 
 -- parity holds on each block with its parity
 abbrev pub ParityHolds : Type 0
-ParityHolds = (block : List Bool) → Holds16 (with_parity16 block)
+ParityHolds = (parity : Parity) (block : List Bool) → Holds parity (with_parity parity block)
 
 -- the test is true exactly where parity holds
 abbrev pub TestsParity : Type 0
-TestsParity = (message : List Bool)
-    → (holds16_of message ≡ true → Holds16 message) × (Holds16 message → holds16_of message ≡ true)
+TestsParity = (parity : Parity) (message : List Bool)
+    → (holds_of parity message ≡ true → Holds parity message) × (Holds parity message → holds_of parity message ≡ true)

@@ -1,24 +1,35 @@
-// What no clause says: that the generator, the place of the block's bits and the order of the parity
+// What no clause says: that the generators, the place of the block's bits and the order of the parity
 // are the right ones.
-use crate::{add16, holds16};
+use crate::{Parity, holds16, mark, with_parity};
 use std::process::Abort;
-use tetra_bits::Bits;
+use tetra_bits::{Bits, Mark};
 
-// The 16 bits that `add16` puts behind a block, as a number.
-fn parity_behind(rt: &impl Abort, block: &Bits) -> u16 {
-    assert!(rt; block.len() <= 416);
-    let message = add16(block);
-    assert!(rt; message.len() == block.len() + 16);
-    assert!(rt; holds16(&message));
-    let mut parity = 0;
-    for i in block.len()..message.len() {
-        parity = parity << 1 | u16::from(message.get(i));
+// A block of `size` bits that ends with the low eight bits of `last`.
+fn block_of(rt: &impl Abort, size: usize, last: u32) -> Bits {
+    assert!(rt; 8 <= size && size <= 416);
+    let mut block = Bits::new();
+    for i in 0..size {
+        assert!(rt; block.len() < 416);
+        block.push(size - 8 <= i && last >> (size - 1 - i) & 1 == 1);
     }
-    parity
+    block
+}
+
+// The bits that stand behind a block with its parity, as a number.
+fn parity_behind(rt: &impl Abort, parity: Parity, block: &Bits) -> u32 {
+    assert!(rt; block.len() <= 416);
+    let message = with_parity(parity, block);
+    assert!(rt; message.len() == block.len() + parity.width());
+    assert!(rt; mark(parity, &message) == Mark::Good);
+    let mut number = 0;
+    for i in block.len()..message.len() {
+        number = number << 1 | u32::from(message.get(i));
+    }
+    number
 }
 
 #[test]
-fn parity_of_a_text(rt: HostRuntime) {
+fn sixteen_bits_of_a_text(rt: HostRuntime) {
     let mut block = Bits::new();
     for byte in b"123456789" {
         for i in 0..8u32 {
@@ -26,28 +37,30 @@ fn parity_of_a_text(rt: HostRuntime) {
             block.push(byte >> (7 - i) & 1 == 1);
         }
     }
-    assert_eq!(rt; parity_behind(&rt, &block), 0xD64E);
+    assert_eq!(rt; parity_behind(&rt, Parity::Sixteen, &block), 0xD64E);
 }
 
 #[test]
-fn parity_of_zeros(rt: HostRuntime) {
-    for (size, parity) in [(60, 0x12F0), (92, 0x6EA2), (124, 0x534B), (268, 0x7D74)] {
-        let mut block = Bits::new();
-        for _ in 0..size {
-            assert!(rt; block.len() < 268);
-            block.push(false);
-        }
-        assert_eq!(rt; parity_behind(&rt, &block), parity, "of {size} zeros");
+fn parity_of_few_ones(rt: HostRuntime) {
+    for (parity, size, last, behind) in [
+        (Parity::Sixteen, 60, 0, 0x12F0),
+        (Parity::Sixteen, 268, 0, 0x7D74),
+        (Parity::Eight, 60, 0, 0),
+        (Parity::Eight, 60, 1, 0b0001_0011),
+        (Parity::Four, 30, 1, 0b0011),
+    ] {
+        let block = block_of(&rt, size, last);
+        assert_eq!(rt;
+            parity_behind(&rt, parity, &block),
+            behind,
+            "behind {size} bits"
+        );
     }
 }
 
 #[test]
-fn zeros_have_no_parity(rt: HostRuntime) {
-    let mut message = Bits::new();
-    for _ in 0..284usize {
-        assert!(rt; message.len() < 284);
-        message.push(false);
-    }
+fn zeros_have_no_sixteen_bits(rt: HostRuntime) {
+    let message = block_of(&rt, 284, 0);
     assert!(rt; message.len() == 284);
     assert!(rt; !holds16(&message));
 }

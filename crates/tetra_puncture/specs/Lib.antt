@@ -8,3 +8,5 @@ pub mod Rules
 pub mod Certified
 pub mod ToGo
 pub mod lemmas
+pub mod Labels
+pub mod Steps

@@ -1,5 +1,5 @@
--- Facts on the definitions of this crate, with their proofs, for the laws of the plans, the proofs here and those in the
--- crates above. No contract cites them.
+-- Facts on the definitions of this crate, with their proofs, for the laws of the plans, the proofs here and those in
+-- the crates above. No contract cites them.
 pub mod Differ
 pub mod TwoThirds
 pub mod P292
@@ -20,3 +20,8 @@ pub mod Undamaged
 pub mod OwnCosts
 pub mod Front
 pub mod Walk
+pub mod Outputs
+pub mod RowEntries
+pub mod Speech
+pub mod SpeechWhole
+pub mod SpeechHalf

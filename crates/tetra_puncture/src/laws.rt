@@ -1,6 +1,7 @@
 // Laws of the definitions.
 ghost use Rattle.tetra_puncture.specs.Certified.{AcceptedIsCertified, CostToGoIsOne, CostsToGoAreAccepted};
 ghost use Rattle.tetra_puncture.specs.Plan.{WordsDiffer};
+ghost use Rattle.tetra_puncture.specs.Steps.{LeastBranchIsRowEntry};
 ghost use Rattle.tetra_puncture.specs.ToGo.{CostToGoIsFound};
 
 use crate::plan::Plan;
@@ -29,4 +30,9 @@ pub fn cost_to_go_is_found()
 /// Beside the first-least message the costs to go meet all rules.
 pub fn costs_to_go_are_accepted()
     ensures { CostsToGoAreAccepted }
+{}
+
+/// An entry of a row comes from the values of the step and the row behind it alone.
+pub fn least_branch_is_row_entry()
+    ensures { LeastBranchIsRowEntry }
 {}

@@ -1,43 +1,74 @@
 //! Puncturing: which bits of a mother word are sent (EN 300 392-2 clause 8.2.3), and what is said of
-//! any punctured code: its first-least message, its costs to go, and the rules that show them.
+//! any punctured code: its first-least message, its costs to go, what a step costs, and the rules that show them.
 #![tactic(auto)]
 
+ghost use Rattle.std.specs.Prelude.{◌≡◌, ◌≤◌, length};
+
+mod branches;
 mod data;
 mod laws;
 mod plan;
 mod rule;
 mod sending;
+mod speech;
 mod spreading;
 mod two_thirds;
 
+pub use branches::{BranchCosts, Labels, branch_cost, branch_costs};
 pub use data::{P148, P292};
 pub use laws::{
     accepted_is_certified, cost_to_go_is_found, cost_to_go_is_one, costs_to_go_are_accepted,
-    words_differ,
+    least_branch_is_row_entry, words_differ,
 };
 pub use plan::Plan;
 pub use rule::Rule;
 pub use sending::keep;
+pub use speech::{SpeechHalf, SpeechWhole};
 pub use spreading::spread;
 pub use two_thirds::TwoThirds;
 
 // The clauses say every value. This calls each function once at the smallest plan: a 1 and zeros, whose
-// word is written out, and values at the places that are sent.
+// word is written out, and values at the places that are sent; and each other plan once, by the front of such a word.
 #[cfg(test)]
 mod tests {
-    use super::{TwoThirds, keep, spread};
+    use super::{P148, P292, Plan, SpeechHalf, SpeechWhole, TwoThirds, keep, spread};
     use tetra_bits::{Bits, Soft};
 
-    #[test]
-    fn one_and_zeros(rt: HostRuntime) {
+    fn one_and_zeros(size: usize) -> Bits
+        requires few { size ≤ 288 }
+        requires some { 1 ≤ size }
+        ensures { length result ≡ size }
+    {
         let mut message = Bits::new();
         message.push(true);
-        message.push(false);
-        let word = keep::<TwoThirds<6, 9>>(&message);
-        let expected = [true, true, true, false, true, false, true, true, false];
-        for i in 0..9usize {
-            assert!(rt; word.get(i) == expected[i]);
+        for _k in 1..size {
+            message.push(false);
         }
+        message
+    }
+
+    fn begins<P: Plan>(front: &[bool]) -> bool
+        requires sound { P.IsSound }
+        requires size { length front.now ≤ P.SENT }
+    {
+        let word = keep::<P>(&one_and_zeros(P::STEPS - 4));
+        for i in 0..front.len() {
+            if word.get(i) != front[i] {
+                return false;
+            }
+        }
+        true
+    }
+
+    #[test]
+    fn one_and_zeros_are_sent(rt: HostRuntime) {
+        let two_thirds = [true, true, true, false, true, false, true, true, false];
+        assert!(rt; begins::<TwoThirds<6, 9>>(&two_thirds));
+        assert!(rt; begins::<P292>(&two_thirds));
+        assert!(rt; begins::<P148>(&[true, true, true, true, false, true, false, true, true]));
+        let speech = [true, true, true, true, false, true, true, true, false];
+        assert!(rt; begins::<SpeechWhole>(&speech));
+        assert!(rt; begins::<SpeechHalf>(&speech));
     }
 
     #[test]

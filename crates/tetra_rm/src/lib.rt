@@ -1,15 +1,17 @@
 //! The access code of 14 message bits and 16 further bits. Its rows are this project's own.
 #![tactic(auto)]
 
+mod costs;
 mod laws;
 mod searching;
 mod table;
+pub mod walk;
 mod words;
 
 pub use laws::{undamaged_arrives, words_differ};
 pub use searching::{RmReading, decode};
 pub use table::{Rows, own_rows};
-pub use words::encode;
+pub use words::{encode, message_bits};
 
 #[cfg(test)]
 mod tests;

@@ -1,4 +1,7 @@
 // That the clauses mean the rows, words and messages that were asked for.
+ghost use Rattle.std.specs.Prelude.{◌≡◌, length};
+
+use crate::walk::turned;
 use crate::{Rows, decode, encode, own_rows};
 use tetra_bits::{Bits, Soft};
 
@@ -12,9 +15,11 @@ fn number(word: &Bits) -> u32 {
 }
 
 /// 30 values, 127 where the bit is 0 and -127 where it is 1.
-fn values(word: u32) -> Soft {
+fn values(word: u32) -> Soft
+    ensures { length result ≡ 30 }
+{
     let mut soft = Soft::new();
-    for k in 0..30 {
+    for k in 0..30usize {
         soft.push(if (word >> (29 - k)) & 1 == 1 {
             -127
         } else {
@@ -40,9 +45,7 @@ fn words(rt: HostRuntime) {
 #[test]
 fn zeros_are_message_0(rt: HostRuntime) {
     let mut soft = Soft::new();
-    for _ in 0..30usize {
-        soft.push(0);
-    }
+    soft.resize(30);
     let reading = decode(&own_rows(), &soft);
     assert_eq!(rt; (reading.message, reading.metric), (0, 0));
 }
@@ -57,4 +60,12 @@ fn signs_of_a_word(rt: HostRuntime) {
 fn rows_of_zeros(rt: HostRuntime) {
     let reading = decode(&Rows([0; 14]), &values(0x0001_1F5F));
     assert_eq!(rt; (reading.message, reading.metric), (1, 11 * 127));
+}
+
+#[test]
+fn last_bit_turned(rt: HostRuntime) {
+    let soft = values(0x0001_1F5F);
+    let one = decode(&own_rows(), &soft);
+    let metric = turned(&own_rows(), &soft, one.message, one.metric, 14);
+    assert_eq!(rt; metric, 12 * 127);
 }

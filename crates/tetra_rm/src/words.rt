@@ -53,3 +53,14 @@ pub fn encode(rows: &Rows, message: u16) -> Bits
     push_digits(&mut word, sum_of_rows(rows, message), 16);
     word
 }
+
+/// A message below 16,384 as its 14 bits, the most significant first.
+pub fn message_bits(message: u16) -> Bits
+    requires { message < 16384 }
+    ensures bits { result ≡ digits 14 message }
+    ensures len { length result ≡ 14 }
+{
+    let mut bits = Bits::new();
+    push_digits(&mut bits, message, 14);
+    bits
+}

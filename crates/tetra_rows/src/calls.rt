@@ -1,10 +1,12 @@
-// No clause says that the values of a byte, the keys, the sent places and the parity of SCH/F are the ones that
-// are written down.
+// No clause says that the values of a byte, the keys, the sent places, the parity of SCH/F, the access code, the phase
+// pairs and the ties of the kinds are the ones that are written down.
 // These are values of single calls that were worked out by hand.
 use std::process::Abort;
-use tetra_bits::{Bits, cost, soft_of};
+use tetra_bits::{Bits, Soft, cost, soft_of};
+use tetra_bursts::{Allowed, Train, kind, phase_pair};
 use tetra_channels::Full;
-use tetra_puncture::{TwoThirds, keep};
+use tetra_puncture::{P148, P292, Plan, TwoThirds, keep};
+use tetra_rm::{decode, encode, own_rows};
 use tetra_scramble::{Colour, Key, key, zero_key};
 
 #[test]
@@ -78,5 +80,54 @@ fn sent_words(rt: HostRuntime) {
     for k in 0..408usize {
         assert!(rt; k < word.len());
         assert_eq!(rt; word.get(k), k == 404 || k == 406, "bit {k}");
+    }
+}
+
+#[test]
+fn places_of_protected_data(rt: HostRuntime) {
+    for (j, place) in [(65usize, 170usize), (66, 177), (432, 1165)] {
+        assert_eq!(rt; P292::place(j), place, "of 292 steps, bit {j}");
+    }
+    for (j, place) in [(36usize, 49usize), (432, 591)] {
+        assert_eq!(rt; P148::place(j), place, "of 148 steps, bit {j}");
+    }
+}
+
+/// The word of the access message 1: thirteen zeros, a one, and the last row.
+const LAST_ROW: &[u8; 30] = b"000000000000010001111101011111";
+
+#[test]
+fn access_words(rt: HostRuntime) {
+    let word = encode(&own_rows(), 1);
+    let mut silent = Soft::new();
+    let mut heard = Soft::new();
+    for (k, bit) in LAST_ROW.iter().enumerate() {
+        assert!(rt; k < word.len() && silent.len() < 30 && heard.len() < 30);
+        assert_eq!(rt; word.get(k), *bit == b'1', "bit {k}");
+        silent.push(0);
+        heard.push(if *bit == b'1' { -127 } else { 127 });
+    }
+    assert!(rt; silent.len() == 30 && heard.len() == 30);
+    let nothing = decode(&own_rows(), &silent);
+    assert!(rt; nothing.message == 0 && nothing.metric == 0);
+    let one = decode(&own_rows(), &heard);
+    assert!(rt; one.message == 1 && one.metric == 0);
+}
+
+#[test]
+fn phase_pairs_of_zeros(rt: HostRuntime) {
+    assert!(rt; phase_pair(&[false; 230]) == (true, true));
+    assert!(rt; phase_pair(&[false; 254]) == (false, false));
+}
+
+#[test]
+fn kinds_of_nothing(rt: HostRuntime) {
+    for (n, p, y, train) in [
+        (true, true, true, Train::N),
+        (false, true, true, Train::P),
+        (false, false, true, Train::Y),
+    ] {
+        let found = kind(&[0; 510], true, Allowed { n, p, y });
+        assert!(rt; found == train);
     }
 }

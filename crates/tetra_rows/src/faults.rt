@@ -17,7 +17,7 @@ struct Faults {
     calls: &'static [(u64, u64, usize, &'static str)],
 }
 
-const READS: [Faults; 4] = [
+const READS: [Faults; 5] = [
     Faults {
         words: "encode dir=ul",
         input: "46 34*00",
@@ -38,6 +38,16 @@ const READS: [Faults; 4] = [
             (35, 35, 0, "4 0 read failed after 0 slots"),
             (36, 36, 510, "4 1 read failed after 1 slots"),
             (37, 37, 510, "6 1 too long: 1 slots"),
+        ],
+    },
+    Faults {
+        words: "encode dir=ul max=1",
+        input: "46 34*00",
+        output: "full",
+        piece: 1,
+        calls: &[
+            (36, 36, 510, "4 1 read failed after 1 slots"),
+            (37, 37, 510, "0 1 "),
         ],
     },
     Faults {

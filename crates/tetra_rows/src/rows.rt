@@ -4,7 +4,7 @@ use crate::bytes::bytes;
 use crate::runs::{Row, SURE, holds, run_over};
 use std::test::Fail;
 
-const ENCODED: [Row; 13] = [
+const ENCODED: [Row; 18] = [
     Row {
         words: "encode dir=ul ts1=d72",
         input: "54 54*00",
@@ -78,14 +78,44 @@ const ENCODED: [Row; 13] = [
         end: "3 1 input: slot 1: pad bit",
     },
     Row {
+        words: "encode dir=ul ts1=d72 at=64",
+        input: "54 54*00 46 34*00 46 34*00 46 34*00 46 34*00 46 34*00 46 34*00 46 34*00 54 54*00",
+        output: "data full full full full full full full data",
+        end: "0 9 ",
+    },
+    Row {
+        words: "encode dir=ul ts1=cb",
+        input: "43 00",
+        output: "510*00",
+        end: "0 1 ",
+    },
+    Row {
+        words: "encode at=68 ts1=d72",
+        input: "54 00 00 54*00",
+        output: "",
+        end: "3 0 input: slot 0: wrong kind",
+    },
+    Row {
+        words: "encode at=68 ts1=d72",
+        input: "5A",
+        output: "",
+        end: "3 0 input: slot 0: unknown kind",
+    },
+    Row {
         words: "encode dir=ul",
+        input: "",
+        output: "",
+        end: "0 0 ",
+    },
+    Row {
+        words: "encode",
         input: "",
         output: "",
         end: "0 0 ",
     },
 ];
 
-const DECODED: [Row; 11] = [
+const DECODED: [Row; 17] = [
     Row {
         words: "decode dir=ul",
         input: "full",
@@ -147,14 +177,50 @@ const DECODED: [Row; 11] = [
         end: "0 1 ",
     },
     Row {
+        words: "decode dir=ul max=1",
+        input: "full full",
+        output: "46 47 00 00 33*00 07 D7 40",
+        end: "6 1 too long: 1 slots",
+    },
+    Row {
+        words: "decode",
+        input: "509*00",
+        output: "",
+        end: "3 0 input: slot 0: truncated",
+    },
+    Row {
+        words: "decode",
+        input: "510*00",
+        output: "46 55 00 00 00 00 42 00 00 36*00",
+        end: "0 1 ",
+    },
+    Row {
+        words: "decode form=audit",
+        input: "510*00",
+        output: "510*00 46 55 00 00 00 00 42 00 00 36*00 9248*00",
+        end: "0 1 ",
+    },
+    Row {
+        words: "decode dir=ul ts1=cb",
+        input: "510*00",
+        output: "43 42 00 00 14*00 42 00 00 14*00",
+        end: "0 1 ",
+    },
+    Row {
         words: "decode dir=ul",
+        input: "",
+        output: "",
+        end: "0 0 ",
+    },
+    Row {
+        words: "decode",
         input: "",
         output: "",
         end: "0 0 ",
     },
 ];
 
-const AUDITED: [Row; 15] = [
+const AUDITED: [Row; 27] = [
     Row {
         words: "audit dir=ul",
         input: "510*00 46 42 00 00 36*00 9248*00",
@@ -240,7 +306,79 @@ const AUDITED: [Row; 15] = [
         end: "6 1 too long: 1 slots",
     },
     Row {
+        words: "audit",
+        input: "510*00 46 55 00 00 00 00 42 00 00 36*00 9248*00",
+        output: "'0_ok",
+        end: "0 1 ",
+    },
+    Row {
+        words: "audit",
+        input: "510*00 46 55 00 00 00 00 42 00 00 36*00 167*00 01 9080*00",
+        output: "'0_refused_field_1_step_5_state_3_edge_0",
+        end: "1 1 refused: first slot 0, count 1",
+    },
+    Row {
+        words: "audit",
+        input: "510*00 46 55 00 00 00 00 42 00 00 80 35*00 9248*00",
+        output: "'0_refused_field_1_step_0_state_0_tie",
+        end: "1 1 refused: first slot 0, count 1",
+    },
+    Row {
+        words: "audit",
+        input: "510*00 46 55 00 00 00 00 47 00 00 36*00 9248*00",
+        output: "'0_refused_field_1_mark",
+        end: "1 1 refused: first slot 0, count 1",
+    },
+    Row {
+        words: "audit",
+        input: "510*00 46 55 00 00 00 00 42 00 01 36*00 9248*00",
+        output: "'0_refused_field_1_metric",
+        end: "1 1 refused: first slot 0, count 1",
+    },
+    Row {
+        words: "audit",
+        input: "510*00 46 55 00 00 00 00 42 00 00 35*00 01 9248*00",
+        output: "'0_refused_field_1_pad",
+        end: "1 1 refused: first slot 0, count 1",
+    },
+    Row {
+        words: "audit",
+        input: "510*00 48 55 00 00 00 00 42 00 00 36*00 9248*00",
+        output: "'0_refused_kind",
+        end: "1 1 refused: first slot 0, count 1",
+    },
+    Row {
+        words: "audit",
+        input: "510*00 46 55 01 00 00 00 42 00 00 36*00 9248*00",
+        output: "'0_refused_field_0_metric",
+        end: "1 1 refused: first slot 0, count 1",
+    },
+    Row {
+        words: "audit",
+        input: "510*00 46 55 00 00 00 04 42 00 00 36*00 9248*00",
+        output: "'0_refused_field_0_bits",
+        end: "1 1 refused: first slot 0, count 1",
+    },
+    Row {
+        words: "audit dir=ul ts1=d72",
+        input: "34*00 81 81 7F 7F key1 p key2 81 81 7F 7F 14*00 54 55 00 00 54*00",
+        output: "",
+        end: "8 0 not built",
+    },
+    Row {
+        words: "audit dir=ul ts1=d72 ts2=d72 ts3=d72",
+        input: "data 54 55 00 00 54*00 data 54 47 00 00 54*00 data 46 55 00 00 54*00",
+        output: "'0_ok '1_refused_field_0_mark '2_refused_kind",
+        end: "1 3 refused: first slot 1, count 2",
+    },
+    Row {
         words: "audit dir=ul",
+        input: "",
+        output: "",
+        end: "0 0 ",
+    },
+    Row {
+        words: "audit",
         input: "",
         output: "",
         end: "0 0 ",

@@ -40,8 +40,8 @@ const ENDS: [(&str, &str); 37] = [
     ("encode ts1=cb dir=dl", "2 0 word 1: uplink only"),
     ("encode ts2=sig ts1=cb ts3=cb", "2 0 word 2: uplink only"),
     ("encode ts1=cb cc=64", "2 0 word 2: out of range"),
-    ("encode", "8 0 not built"),
-    ("decode dir=ul ts1=cb", "8 0 not built"),
+    ("decode dir=ul ts1=d48n1", "8 0 not built"),
+    ("decode ts2=speech", "8 0 not built"),
     ("encode ts4=d24n8 dir=ul", "8 0 not built"),
     (
         "gen dir=ul draw=18446744073709551615 slots=1000000",

@@ -1,4 +1,3 @@
 pub mod Numbers
 pub mod Window
 pub mod Recurrence
-pub mod Entries

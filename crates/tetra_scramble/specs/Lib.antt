@@ -1,3 +1,4 @@
 pub mod Colour
 pub mod Key
 pub mod Flips
+pub mod lemmas

@@ -14,9 +14,9 @@ pub fn flip_bits(x: &Bits, key: &Key, from: usize) -> Bits
     requires last { from - 1 + length x.now ≤ 432 }
     ensures { result ≡ flipped x.now key.now from }
 {
-    let mut bits = Bits::new();
+    let mut bits = Bits::zeros(x.len());
     for i in 0..x.len() {
-        bits.push(x.get(i) != key.get(from - 1 + i));
+        bits.set(i, x.get(i) != key.get(from - 1 + i));
     }
     bits
 }
@@ -39,9 +39,9 @@ pub fn flip_soft_into(x: &Soft, key: &Key, from: usize, values: &mut Soft)
     requires last { from - 1 + length x.now ≤ 432 }
     ensures { values.new ≡ turned x.now key.now from }
 {
-    values.clear();
+    values.resize(x.len());
     for i in 0..x.len() {
-        values.push(turned_by(x.get(i), key.get(from - 1 + i)));
+        values.set(i, turned_by(x.get(i), key.get(from - 1 + i)));
     }
 }
 

@@ -14,6 +14,8 @@ pub record SameOn {X : Type 0} (at c : ℕ) (a b : List X) : Type 0 where
 
 -- settings that agree where timeslot c looks
 pub record AgreeOn (c : ℕ) (s z : Settings) : Type 0 where
+  pub dir : s.dir ≡ z.dir
+  pub rows : s.rows ≡ z.rows
   pub colour : s.colour ≡ z.colour
   pub at : s.at ≡ z.at
   pub mode : timeslot_mode s c ≡ timeslot_mode z c

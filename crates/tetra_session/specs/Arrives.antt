@@ -1,47 +1,65 @@
 -- What is read of undamaged slots.
-use Rattle.std.specs.Prelude.{ℤ, ◌≡◌, Bool, List, [], ◌∷◌, length}
+use Rattle.std.specs.Prelude.{◌≡◌, ℕ, ◌+◌, ℤ, Bool, List, length, slice_index_or, None, Some}
+use Rattle.std.specs.declared.option.Option.{Option}
+use Rattle.tetra_bits.specs.Digits.{digits}
 use Rattle.tetra_bits.specs.declared.reading.Mark.{Mark}
 use Rattle.tetra_bits.specs.declared.reading.Mark.TheVariants.{Good, Unchecked}
-use Rattle.tetra_channels.specs.Channels.{message_of}
+use Rattle.tetra_channels.specs.Channels.{bsch, hu, half, full, message_of}
 use Rattle.tetra_settings.specs.Slots.{byte_of}
 use Rattle.tetra_settings.specs.Blocks.{Fits, letter_of}
 use Rattle.tetra_settings.specs.declared.types.Settings.{Settings}
 use Rattle.tetra_settings.specs.declared.blocks.Body.{Body}
-use Rattle.tetra_settings.specs.declared.blocks.Body.TheVariants.{Full, Traffic}
+use Rattle.tetra_settings.specs.declared.blocks.Body.TheVariants.{Full, Halves, Sync, Traffic, Stolen, Both, Control}
 use Rattle.tetra_settings.specs.declared.blocks.SlotBlocks.{SlotBlocks}
 use Rattle.tetra_settings.specs.declared.readings.FieldName.{FieldName}
-use Rattle.tetra_settings.specs.declared.readings.FieldName.TheVariants.{Full as FullName, D72}
+use Rattle.tetra_settings.specs.declared.readings.FieldName.TheVariants.{Aach, Sync as SyncName, Half, Hu, Full as FullName, D72}
 use Rattle.tetra_settings.specs.declared.readings.Field.{Field}
 use Rattle.tetra_settings.specs.declared.readings.SlotReading.{SlotReading}
 use Rattle.tetra_session.specs.Built.{IsBuilt, IsBuiltLetter}
-use Rattle.tetra_session.specs.Sent.{slot_written}
+use Rattle.tetra_session.specs.Sent.{KeepsSlot}
 use Rattle.tetra_session.specs.Heard.{slot_reading}
-use Rattle.tetra_session.specs.Undamaged.{KeepsSlot}
 
--- the one field of a reading: these bits without cost
-pub record HasField (reading : SlotReading) (name : FieldName) (mark : Mark) (bits : List Bool) : Type 0 where
+-- field i of a reading, counted from 0: these bits without cost
+pub record HasField (reading : SlotReading) (i : ℕ) (name : FieldName) (mark : Mark) (bits : List Bool) : Type 0 where
   pub field : Field
-  pub alone : reading.fields.items ≡ field ∷ []
+  pub there : (other : Field) → slice_index_or reading.fields.items i other ≡ field
   pub name_is : field.name ≡ name
   pub mark_is : field.reading.mark ≡ mark
   pub free : field.reading.metric ≡ 0
   pub bits_are : field.reading.bits ≡ bits
 
--- the blocks of a body are read: SCH/F with its parity and Good, unprotected data Unchecked
-abbrev pub BlocksRead : Body → SlotReading → Type 0
-BlocksRead (Full block) reading = HasField reading FullName Good (message_of 16 block)
-BlocksRead (Traffic load) reading = HasField reading D72 Unchecked load
-BlocksRead body reading = ⊥
+-- a subslot is read where it was sent
+abbrev pub SubslotRead : Option (List Bool) → SlotReading → ℕ → Type 0
+SubslotRead None reading i = Unit {0}
+SubslotRead (Some block) reading i = HasField reading i Hu Good (message_of hu block)
+
+-- the blocks of a body are read, in the fields from i on: with their parity and Good, and unprotected data Unchecked
+abbrev pub BlocksRead : Body → SlotReading → ℕ → Type 0
+BlocksRead (Full block) reading i = HasField reading i FullName Good (message_of full block)
+BlocksRead (Halves first second) reading i =
+    HasField reading i Half Good (message_of half first) × HasField reading (i + 1) Half Good (message_of half second)
+BlocksRead (Sync sync second) reading i =
+    HasField reading i SyncName Good (message_of bsch sync) × HasField reading (i + 1) Half Good (message_of half second)
+BlocksRead (Traffic load) reading i = HasField reading i D72 Unchecked load
+BlocksRead (Stolen first load) reading i = ⊥
+BlocksRead (Both first second load) reading i = ⊥
+BlocksRead (Control first second) reading i = SubslotRead first reading i × SubslotRead second reading (i + 1)
+
+-- the access field is read in front of them, where there is one
+abbrev pub AccessRead : Option ℕ → Body → SlotReading → Type 0
+AccessRead None body reading = BlocksRead body reading 0
+AccessRead (Some message) body reading =
+    HasField reading 0 Aach Unchecked (digits 14 message) × BlocksRead body reading 1
 
 -- an undamaged slot has the letter that was written, and is read as the blocks that were written
 pub record SlotRead (blocks : SlotBlocks) (reading : SlotReading) : Type 0 where
   pub letter : reading.letter ≡ byte_of (letter_of blocks.body)
-  pub fields : BlocksRead blocks.body reading
+  pub fields : AccessRead blocks.aach blocks.body reading
 
 abbrev pub SlotsArrive : Type 0
 SlotsArrive =
     (settings : Settings) (history : List SlotBlocks) (blocks : SlotBlocks)
     (earlier : List (List ℤ)) (received : List ℤ)
     → IsBuilt settings → Fits settings (length history) blocks → IsBuiltLetter (byte_of (letter_of blocks.body))
-    → length earlier ≡ length history → KeepsSlot (slot_written settings history blocks) received
+    → length earlier ≡ length history → KeepsSlot settings history blocks received
     → SlotRead blocks (slot_reading settings earlier received)

@@ -1,31 +1,43 @@
--- What is built: on the uplink, timeslots of signalling and of unprotected data, and the letters F and T.
-use Rattle.std.specs.Prelude.{ℕ, Bool, true, false, ◌&&◌, ◌||◌, ◌==◌, IsTrue}
+-- What is built: timeslots of signalling, of control bursts and of unprotected data, and the letters F, H, S, T and C.
+use Rattle.std.specs.Prelude.{ℕ, Bool, true, false, ◌||◌, ◌==◌, IsTrue}
 use Rattle.std.specs.List.{list_all}
-use Rattle.tetra_settings.specs.declared.types.Dir.{Dir}
-use Rattle.tetra_settings.specs.declared.types.Dir.TheVariants.{Dl, Ul}
 use Rattle.tetra_settings.specs.declared.types.Mode.{Mode}
-use Rattle.tetra_settings.specs.declared.types.Mode.TheVariants.{Sig, D72}
+use Rattle.tetra_settings.specs.declared.types.Mode.TheVariants.{Sig, Cb, D72, D48, D24, Speech}
 use Rattle.tetra_settings.specs.declared.types.Settings.{Settings}
+use Rattle.tetra_settings.specs.declared.readings.FieldName.{FieldName}
+use Rattle.tetra_settings.specs.declared.readings.FieldName.TheVariants.{Aach, Sync, Half, Hu, Full, D72 as D72Field, D48 as D48Field, D24 as D24Field, Whole, Single}
 
 abbrev pub is_built_mode : Mode → Bool
 is_built_mode Sig = true
+is_built_mode Cb = true
 is_built_mode D72 = true
-is_built_mode mode = false
+is_built_mode (D48 span) = false
+is_built_mode (D24 span) = false
+is_built_mode Speech = false
 
-abbrev pub is_uplink : Dir → Bool
-is_uplink Ul = true
-is_uplink Dl = false
-
--- settings: the uplink, and modes that are built
+-- settings: modes that are built
 abbrev pub is_built : Settings → Bool
-is_built settings = is_uplink settings.dir && list_all is_built_mode settings.modes
+is_built settings = list_all is_built_mode settings.modes
 
 abbrev pub IsBuilt : Settings → Type 0
 IsBuilt settings = IsTrue (is_built settings)
 
--- the byte of a letter that is built: F or T
+-- the byte of a letter that is built: F, H, S, T or C
 abbrev pub is_built_letter : ℕ → Bool
-is_built_letter byte = byte == 70 || byte == 84
+is_built_letter byte = byte == 70 || byte == 72 || byte == 83 || byte == 84 || byte == 67
 
 abbrev pub IsBuiltLetter : ℕ → Type 0
 IsBuiltLetter byte = IsTrue (is_built_letter byte)
+
+-- the fields that are built: those of these letters in these timeslots
+abbrev pub IsBuiltName : FieldName → Type 0
+IsBuiltName Aach = Unit {0}
+IsBuiltName Sync = Unit {0}
+IsBuiltName Half = Unit {0}
+IsBuiltName Hu = Unit {0}
+IsBuiltName Full = Unit {0}
+IsBuiltName D72Field = Unit {0}
+IsBuiltName D48Field = ⊥
+IsBuiltName D24Field = ⊥
+IsBuiltName Whole = ⊥
+IsBuiltName Single = ⊥

@@ -1,7 +1,7 @@
-pub mod Burst
-pub mod Undamaged
 pub mod Built
 pub mod Time
+pub mod Spots
+pub mod Readers
 pub mod Sent
 pub mod Heard
 pub mod Apart

@@ -1,34 +1,98 @@
 -- What a sender sends, and what it stands for.
-use Rattle.std.specs.Prelude.{◌≡◌, ℕ, ◌≤◌, Bool, List, [], length, ℤ}
-use Rattle.tetra_channels.specs.Channels.{type5_bits, raw_bits}
-use Rattle.tetra_puncture.specs.Places.{two_thirds}
-use Rattle.tetra_scramble.specs.Key.{key_of}
+use Rattle.std.specs.Prelude.{◌≡◌, ℕ, ◌≤◌, Bool, List, [], length, take, drop, ℤ, None, Some}
+use Rattle.std.specs.declared.option.Option.{Option}
+use Rattle.tetra_bursts.specs.Arrives.{KeepsNormalDown, KeepsSyncDown, KeepsNormalUp, KeepsControlUp}
+use Rattle.tetra_bursts.specs.Bursts.{normal_down_slot, sync_down_slot, normal_up_slot, control_up_slot}
+use Rattle.tetra_bursts.specs.declared.table.Train.{Train}
+use Rattle.tetra_bursts.specs.declared.table.Train.TheVariants.{N, P as PTrain}
+use Rattle.tetra_channels.specs.Channels.{bsch, hu, half, full, type5_bits, raw_bits, access_bits}
+use Rattle.tetra_scramble.specs.Key.{key_of, zero_key_bits}
 use Rattle.tetra_settings.specs.Slots.{mode_of}
+use Rattle.tetra_settings.specs.declared.types.Dir.{Dir}
+use Rattle.tetra_settings.specs.declared.types.Dir.TheVariants.{Dl, Ul}
 use Rattle.tetra_settings.specs.declared.types.Mode.{Mode}
-use Rattle.tetra_settings.specs.declared.types.Mode.TheVariants.{D72}
+use Rattle.tetra_settings.specs.declared.types.Mode.TheVariants.{Sig, Cb, D72, D48, D24, Speech}
 use Rattle.tetra_settings.specs.declared.types.Settings.{Settings}
 use Rattle.tetra_settings.specs.declared.blocks.Body.{Body}
-use Rattle.tetra_settings.specs.declared.blocks.Body.TheVariants.{Full, Traffic}
+use Rattle.tetra_settings.specs.declared.blocks.Body.TheVariants.{Full, Halves, Sync, Traffic, Stolen, Both, Control}
 use Rattle.tetra_settings.specs.declared.blocks.SlotBlocks.{SlotBlocks}
-use Rattle.tetra_session.specs.Burst.{burst}
 use Rattle.tetra_session.specs.Time.{timeslot_mode, depth}
-use Rattle.tetra_session.specs.declared.burst.Train.TheVariants.{N}
 use Rattle.tetra_session.specs.declared.sender.Sender.{Sender}
 
--- the type-5 bits of SCH/F
-abbrev pub full_bits : List Bool → List Bool → List Bool
-full_bits key block = type5_bits 16 151 (two_thirds 288 432) key block
+-- the burst of a slot with the type-5 bits that it carries, but for the access field: a training sequence, block 1 and
+-- block 2; the BSCH and block 2; or two subslots, where each is sent
+pub data SlotBurst : Type 0 where
+  pub Normal : Train → List Bool → List Bool → SlotBurst
+  pub Synchronisation : List Bool → List Bool → SlotBurst
+  pub Subslots : Option (List Bool) → Option (List Bool) → SlotBurst
 
--- the word of 432 bits that a body has in a timeslot of this mode
-abbrev pub word_of : List Bool → Mode → Body → List Bool
-word_of key mode (Full block) = full_bits key block
-word_of key D72 (Traffic load) = raw_bits key load
-word_of key mode body = []
+-- a normal burst whose blocks are the halves of a word of 432 bits
+abbrev pub whole : Train → List Bool → SlotBurst
+whole train word = Normal train (take 216 word) (drop 216 word)
+
+-- the 432 type-5 bits of the load of a traffic slot, by the mode of its timeslot; protected data and speech are not
+-- built
+abbrev pub load_word : List Bool → Mode → List Bool → List Bool
+load_word key D72 load = raw_bits key load
+load_word key Sig load = []
+load_word key Cb load = []
+load_word key (D48 span) load = []
+load_word key (D24 span) load = []
+load_word key Speech load = []
+
+-- the type-5 bits of a subslot that is sent
+abbrev pub subslot_bits : List Bool → Option (List Bool) → Option (List Bool)
+subslot_bits key None = None
+subslot_bits key (Some block) = Some (type5_bits hu key block)
+
+-- the burst of a body. BSCH has the key of no colour; stolen half slots are not built
+abbrev pub burst_of : List Bool → Mode → Body → SlotBurst
+burst_of key mode (Full block) = whole N (type5_bits full key block)
+burst_of key mode (Halves first second) = Normal PTrain (type5_bits half key first) (type5_bits half key second)
+burst_of key mode (Sync sync second) =
+    Synchronisation (type5_bits bsch zero_key_bits sync) (type5_bits half key second)
+burst_of key mode (Traffic load) = whole N (load_word key mode load)
+burst_of key mode (Stolen first load) = Normal PTrain [] []
+burst_of key mode (Both first second load) = Normal PTrain [] []
+burst_of key mode (Control first second) = Subslots (subslot_bits key first) (subslot_bits key second)
+
+-- the access field of a downlink slot
+abbrev pub access_of : List ℕ → List Bool → Option ℕ → List Bool
+access_of rows key None = []
+access_of rows key (Some message) = access_bits rows key message
+
+-- a slot of a direction with an access field and a burst
+abbrev pub slot_of : Dir → List Bool → SlotBurst → List ℤ
+slot_of Dl access (Normal train first second) = normal_down_slot train first access second
+slot_of Ul access (Normal train first second) = normal_up_slot train first second
+slot_of dir access (Synchronisation sync second) = sync_down_slot sync access second
+slot_of dir access (Subslots first second) = control_up_slot first second
+
+-- a received slot that is undamaged against it
+abbrev pub KeepsSlotOf : Dir → List Bool → SlotBurst → List ℤ → Type 0
+KeepsSlotOf Dl access (Normal train first second) received = KeepsNormalDown train first access second received
+KeepsSlotOf Ul access (Normal train first second) received = KeepsNormalUp train first second received
+KeepsSlotOf dir access (Synchronisation sync second) received = KeepsSyncDown sync access second received
+KeepsSlotOf dir access (Subslots first second) received = KeepsControlUp first second received
+
+-- the burst of the slot that follows these
+abbrev pub burst_after : Settings → List SlotBlocks → SlotBlocks → SlotBurst
+burst_after settings history blocks =
+    burst_of (key_of settings.colour) (mode_of settings (length history)) blocks.body
+
+abbrev pub access_in : Settings → SlotBlocks → List Bool
+access_in settings blocks = access_of settings.rows.0 (key_of settings.colour) blocks.aach
 
 -- the slot that follows these
 unfoldable pub slot_written : Settings → List SlotBlocks → SlotBlocks → List ℤ
 slot_written settings history blocks =
-    burst N (word_of (key_of settings.colour) (mode_of settings (length history)) blocks.body)
+    slot_of settings.dir (access_in settings blocks) (burst_after settings history blocks)
+
+-- a received slot that is undamaged against the slot that follows these: at each position of a sent bit its value has
+-- the sign of the bit and is not 0; silent positions, silent subslots and phase pairs are free
+unfoldable pub KeepsSlot : Settings → List SlotBlocks → SlotBlocks → List ℤ → Type 0
+KeepsSlot settings history blocks received =
+    KeepsSlotOf settings.dir (access_in settings blocks) (burst_after settings history blocks) received
 
 -- of no timeslot anything is kept: its blocks are spread over no other slots
 pub record SenderStands (settings : Settings) (history : List SlotBlocks) (sender : Sender) : Type 0 where

@@ -1,9 +1,10 @@
--- The mode of a timeslot, and over how many slots its blocks are spread.
-use Rattle.std.specs.Prelude.{ℕ, ◌-◌, slice_index_or}
+-- The mode of a timeslot, over how many slots its blocks are spread, and which slots of a history are its own.
+use Rattle.std.specs.Prelude.{ℕ, ◌+◌, ◌-◌, Bool, ◌&&◌, cond, nat_eq, nat_lt, List, [], ◌∷◌, slice_index_or}
+use Rattle.tetra_settings.specs.Slots.{timeslot_of, frame_of}
 use Rattle.tetra_settings.specs.declared.types.Span.{Span}
 use Rattle.tetra_settings.specs.declared.types.Span.TheVariants.{One, Four, Eight}
 use Rattle.tetra_settings.specs.declared.types.Mode.{Mode}
-use Rattle.tetra_settings.specs.declared.types.Mode.TheVariants.{Sig, D48, D24}
+use Rattle.tetra_settings.specs.declared.types.Mode.TheVariants.{Sig, Cb, D72, D48, D24, Speech}
 use Rattle.tetra_settings.specs.declared.types.Settings.{Settings}
 
 -- the mode of timeslot c, from 1 to 4
@@ -17,6 +18,22 @@ span_slots Eight = 8
 
 -- over how many traffic slots of its timeslot a block is spread; 0 where it is not
 abbrev pub depth : Mode → ℕ
+depth Sig = 0
+depth Cb = 0
+depth D72 = 0
 depth (D48 span) = span_slots span
 depth (D24 span) = span_slots span
-depth mode = 0
+depth Speech = 0
+
+-- slot t is one of timeslot c, in frames 1 to 17
+abbrev pub counts : ℕ → ℕ → ℕ → Bool
+counts at c t = nat_eq (timeslot_of at t) c && nat_lt (frame_of at t) 18
+
+-- the entries whose number meets a condition; the first has number t
+abbrev pub picked : {X : Type 0} → (ℕ → Bool) → ℕ → List X → List X
+picked meets t [] = []
+picked meets t (x ∷ xs) = cond (meets t) (x ∷ picked meets (t + 1) xs) (picked meets (t + 1) xs)
+
+-- the entries of the slots of timeslot c in frames 1 to 17, in order
+unfoldable pub own : {X : Type 0} → ℕ → ℕ → List X → List X
+own at c history = picked (counts at c) 0 history

@@ -1,25 +1,28 @@
-// What is built: on the uplink, timeslots of signalling and of unprotected data, and the letters F and T.
+// What is built: timeslots of signalling, of control bursts and of unprotected data, and the letters F, H, S, T and C.
 ghost use Rattle.std.specs.Prelude.{◌≡◌};
 ghost use Rattle.tetra_session.specs.Built.{is_built_mode, is_built, is_built_letter};
 
-use tetra_settings::{Dir, Mode, Settings};
+use tetra_settings::{Mode, Settings};
 
 fn is_built_mode(mode: Mode) -> bool
     ensures { result ≡ is_built_mode mode }
 {
-    matches!(mode, Mode::Sig | Mode::D72)
+    match mode {
+        Mode::Sig | Mode::Cb | Mode::D72 => true,
+        Mode::D48(_) | Mode::D24(_) | Mode::Speech => false,
+    }
 }
 
-/// Whether a session with these settings is built: on the uplink, each timeslot of mode `Sig` or `D72`.
+/// Whether a session with these settings is built: each timeslot of mode `Sig`, `Cb` or `D72`.
 pub fn is_built(settings: &Settings) -> bool
     ensures { result ≡ is_built settings.now }
 {
-    settings.dir == Dir::Ul && settings.modes.iter().all(|mode| is_built_mode(*mode))
+    settings.modes.iter().all(|mode| is_built_mode(*mode))
 }
 
-/// Whether the letter with this byte is built: F or T.
+/// Whether the letter with this byte is built: F, H, S, T or C.
 pub fn is_built_letter(byte: u8) -> bool
     ensures { result ≡ is_built_letter byte }
 {
-    byte == b'F' || byte == b'T'
+    byte == b'F' || byte == b'H' || byte == b'S' || byte == b'T' || byte == b'C'
 }

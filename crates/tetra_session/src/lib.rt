@@ -2,15 +2,17 @@
 #![tactic(auto)]
 
 mod built;
-mod burst;
 mod fields;
 mod front;
+mod keys;
 mod laws;
 mod receiver;
 mod sender;
+mod spots;
+mod words;
 
 pub use built::{is_built, is_built_letter};
 pub use front::{Front, FrontField};
-pub use laws::{burst_arrives, heard_apart, sent_apart, slots_arrive};
+pub use laws::{heard_apart, sent_apart, slots_arrive};
 pub use receiver::Receiver;
 pub use sender::Sender;

@@ -1,28 +1,34 @@
 // Receiving, slot by slot.
-ghost use Rattle.std.specs.Prelude.{◌≡◌, ◌<◌, ◌++◌, ◌∷◌, [], List, ℤ, IsTrue, All};
-ghost use Rattle.tetra_bits.specs.Soft.{AllSoft};
-ghost use Rattle.tetra_scramble.specs.Key.{key_of};
-ghost use Rattle.tetra_settings.specs.Validity.{IsValid, IsInRanges};
+ghost use Rattle.std.specs.Prelude.{◌≡◌, ◌<◌, ◌++◌, ◌∷◌, [], List, ℕ, ℤ, IsTrue, All};
+ghost use Rattle.tetra_bits.specs.Soft.{AllSoft, AllWithin};
+ghost use Rattle.tetra_scramble.specs.Key.{key_of, zero_key_bits};
+ghost use Rattle.tetra_settings.specs.Validity.{IsValid};
 ghost use Rattle.tetra_session.specs.Built.{is_built};
 
-use crate::fields::{hear_field, keep_one, letter_by, read_field};
-use crate::front::Front;
+use crate::fields::{allowed_in, hear, keep_fields, letter_by, read};
+use crate::front::{Front, FrontField};
+use crate::keys::Keys;
+use crate::spots::{Place, places};
 use arrayvec::ArrayVec;
-use tetra_scramble::{Key, key};
-use tetra_settings::{Letter, Settings, SlotReading, slot_use};
+use tetra_bits::Soft;
+use tetra_bursts::kind;
+use tetra_settings::{Dir, Field, Letter, Settings, SlotReading, mode_at, slot_use};
 
 /// A receiver of slots, four timeslots side by side. It stands for its settings and for the slots that it was given so
 /// far. This project's own.
 #[derive(Drop)]
 pub struct Receiver {
     settings: Settings,
-    /// The key of the colour, made once.
-    key: Key,
+    keys: Keys,
     /// The number of slots so far, so that of the slot whose turn it is.
     turn: u32,
-    ghost ranges: { IsInRanges settings },
+    /// Lists that are filled on the way of a slot, kept so that they serve again.
+    type5: Soft,
+    values: Soft,
+    ghost valid: { IsValid settings },
     ghost built: { IsTrue (is_built settings) },
-    ghost keyed: { key ≡ key_of settings.colour },
+    ghost keyed: { keys.colour ≡ key_of settings.colour },
+    ghost none_keyed: { keys.none ≡ zero_key_bits },
 }
 
 impl Receiver {
@@ -39,13 +45,15 @@ impl Receiver {
     {
         Receiver {
             settings: *settings,
-            key: key(&settings.colour),
+            keys: Keys::new(&settings.colour),
             turn: 0,
+            type5: Soft::new(),
+            values: Soft::new(),
         }
     }
 
     /// The letter of the slot whose turn it is, as a byte, by the values of its 510 positions, each
-    /// from -127 to 127. This changes nothing.
+    /// from -`SOFT_MAX` to `SOFT_MAX`. This changes nothing.
     pub fn letter(&self, soft: &[i16; 510]) -> u8
         requires { AllSoft soft.now }
         ensures { result ≡ slot_letter self.now.settings self.now.turn soft.now }
@@ -53,16 +61,24 @@ impl Receiver {
         self.letter_heard(soft).byte()
     }
 
-    #[tactic(auto, unfolding(crate::specs::Heard::letter_heard))]
     fn letter_heard(&self, soft: &[i16; 510]) -> Letter
         requires { AllSoft soft.now }
         ensures { result ≡ letter_heard self.now.settings self.now.turn soft.now }
     {
-        letter_by(slot_use(&self.settings, self.turn), soft)
+        let slot = slot_use(&self.settings, self.turn);
+        let dl = self.settings.dir == Dir::Dl;
+        letter_by(slot, kind(soft, dl, allowed_in(self.settings.dir, slot)))
+    }
+
+    /// The places of the fields of the slot whose turn it is, and its letter.
+    fn heard(&self, soft: &[i16; 510]) -> (Letter, ArrayVec<Place, 4>) {
+        let letter = self.letter_heard(soft);
+        let places = places(self.settings.dir, letter, mode_at(&self.settings, self.turn));
+        (letter, places)
     }
 
     /// The letter of the slot whose turn it is, and the soft values of its fields, from the values of
-    /// its 510 positions, each from -127 to 127. The letter is a built one. Each call is one slot;
+    /// its 510 positions, each from -`SOFT_MAX` to `SOFT_MAX`. The letter is a built one. Each call is one slot;
     /// there are at most 16,777,216.
     pub fn front(&mut self, soft: &[i16; 510]) -> Front
         requires few { self.old.turn < 16777216 }
@@ -93,16 +109,25 @@ impl Receiver {
         ensures stands { (settings : _) (history : List (List ℤ)) → ReceiverStands settings history self.old
             → ReceiverStands settings (history ++ soft.now ∷ []) self.new }
     {
-        let letter = self.letter_heard(soft);
+        let (letter, places) = self.heard(soft);
         self.turn += 1;
         front.letter = letter.byte();
-        keep_one(&mut front.fields);
-        hear_field(letter, &self.key, soft, &mut front.fields[0]);
+        keep_fields(&mut front.fields, places.len());
+        for i in 0..places.len() {
+            self.hear_field(places[i], soft, &mut front.fields[i]);
+        }
     }
 
-    /// The reading of the slot whose turn it is, from the values of its 510 positions, each from -127 to 127: of each
-    /// field the first-least message with its metric and its mark. The letter is a built one. Each call is one slot;
-    /// there are at most 16,777,216.
+    /// The field at a place with its values.
+    fn hear_field(&mut self, place: Place, soft: &[i16; 510], field: &mut FrontField) {
+        field.name = place.name;
+        let values = field.soft.get_or_insert_with(Soft::new);
+        hear(self.settings.dir, place, &self.keys, soft, &mut self.type5, values);
+    }
+
+    /// The reading of the slot whose turn it is, from the values of its 510 positions, each from -`SOFT_MAX` to
+    /// `SOFT_MAX`: of each field the first-least message with its metric and its mark. The letter is a built one. Each
+    /// call is one slot; there are at most 16,777,216.
     pub fn slot(&mut self, soft: &[i16; 510]) -> SlotReading
         requires few { self.old.turn < 16777216 }
         requires soft { AllSoft soft.now }
@@ -110,7 +135,7 @@ impl Receiver {
         ensures reading { (settings : _) (history : List (List ℤ)) → ReceiverStands settings history self.old
             → result ≡ slot_reading settings history soft.now }
         ensures well_formed { IsWellFormed result }
-        ensures bounded { All IsBounded result.fields.items }
+        ensures bounded { (top : ℕ) → AllWithin top soft.now → All (IsBounded top) result.fields.items }
         ensures stands { (settings : _) (history : List (List ℤ)) → ReceiverStands settings history self.old
             → ReceiverStands settings (history ++ soft.now ∷ []) self.new }
     {
@@ -130,14 +155,23 @@ impl Receiver {
         ensures reading { (settings : _) (history : List (List ℤ)) → ReceiverStands settings history self.old
             → reading.new ≡ slot_reading settings history soft.now }
         ensures well_formed { IsWellFormed reading.new }
-        ensures bounded { All IsBounded reading.new.fields.items }
+        ensures bounded { (top : ℕ) → AllWithin top soft.now → All (IsBounded top) reading.new.fields.items }
         ensures stands { (settings : _) (history : List (List ℤ)) → ReceiverStands settings history self.old
             → ReceiverStands settings (history ++ soft.now ∷ []) self.new }
     {
-        let letter = self.letter_heard(soft);
+        let (letter, places) = self.heard(soft);
         self.turn += 1;
         reading.letter = letter.byte();
-        keep_one(&mut reading.fields);
-        read_field(letter, &self.key, soft, &mut reading.fields[0]);
+        keep_fields(&mut reading.fields, places.len());
+        for i in 0..places.len() {
+            self.read_field(places[i], soft, &mut reading.fields[i]);
+        }
+    }
+
+    /// What is read of the field at a place.
+    fn read_field(&mut self, place: Place, soft: &[i16; 510], field: &mut Field) {
+        hear(self.settings.dir, place, &self.keys, soft, &mut self.type5, &mut self.values);
+        field.name = place.name;
+        read(place.name, &self.settings.rows, &self.values, &mut field.reading);
     }
 }

@@ -1,26 +1,31 @@
 // Sending, slot by slot.
-ghost use Rattle.std.specs.Prelude.{◌≡◌, ◌<◌, ◌++◌, ◌∷◌, [], List, IsTrue};
-ghost use Rattle.tetra_scramble.specs.Key.{key_of};
-ghost use Rattle.tetra_settings.specs.Validity.{IsValid, IsInRanges};
+ghost use Rattle.std.specs.Prelude.{◌≡◌, ◌<◌, ◌++◌, ◌∷◌, [], List, Bool, ℕ, IsTrue, map, length};
+ghost use Rattle.std.specs.Option.{option_map_or};
+ghost use Rattle.tetra_scramble.specs.Key.{key_of, zero_key_bits};
+ghost use Rattle.tetra_settings.specs.Validity.{IsValid};
 ghost use Rattle.tetra_session.specs.Built.{is_built};
+ghost use Rattle.tetra_bursts.specs.Bursts.{control_up_slot};
+ghost use Rattle.tetra_session.specs.Sent.{slot_of, access_of, subslot_bits, whole, Normal};
 
-use crate::burst::{Train, burst};
-use tetra_channels::{Full, Raw72};
-use tetra_scramble::{Key, key};
-use tetra_settings::{Body, Settings, SlotBlocks};
+use crate::keys::Keys;
+use crate::words::{first_half, second_half};
+use tetra_bits::Bits;
+use tetra_bursts::{Train, control_up, normal_down, normal_up, sync_down};
+use tetra_channels::{Aach, Bsch, Full, Half, Hu, Raw72};
+use tetra_settings::{Body, Dir, Settings, SlotBlocks};
 
 /// A sender of slots, four timeslots side by side. It stands for its settings and for the blocks that it was given so
 /// far. This project's own.
 #[derive(Drop)]
 pub struct Sender {
     settings: Settings,
-    /// The key of the colour, made once.
-    key: Key,
+    keys: Keys,
     /// The number of slots so far, so that of the slot whose turn it is.
     turn: u32,
-    ghost ranges: { IsInRanges settings },
+    ghost valid: { IsValid settings },
     ghost built: { IsTrue (is_built settings) },
-    ghost keyed: { key ≡ key_of settings.colour },
+    ghost keyed: { keys.colour ≡ key_of settings.colour },
+    ghost none_keyed: { keys.none ≡ zero_key_bits },
 }
 
 impl Sender {
@@ -38,7 +43,7 @@ impl Sender {
     {
         Sender {
             settings: *settings,
-            key: key(&settings.colour),
+            keys: Keys::new(&settings.colour),
             turn: 0,
         }
     }
@@ -56,10 +61,72 @@ impl Sender {
             → SenderStands settings (history ++ blocks.now ∷ []) self.new }
     {
         self.turn += 1;
+        let access = self.access(blocks.aach);
         match &blocks.body {
-            Body::Full { block } => burst(Train::N, &Full::encode(block, &self.key)),
-            Body::Traffic { load } => burst(Train::N, &Raw72::encode(load, &self.key)),
-            _ => unreachable!(),
+            Body::Full { block } => self.whole(Train::N, &access, &Full::encode(block, &self.keys.colour)),
+            Body::Halves { first, second } => self.normal(
+                Train::P,
+                &Half::encode(first, &self.keys.colour),
+                &access,
+                &Half::encode(second, &self.keys.colour),
+            ),
+            Body::Sync { sync, half } => sync_down(
+                &Bsch::encode(sync, &self.keys.none),
+                &access,
+                &Half::encode(half, &self.keys.colour),
+            ),
+            Body::Traffic { load } => self.whole(Train::N, &access, &Raw72::encode(load, &self.keys.colour)),
+            Body::Control { first, second } => self.control(first.as_ref(), second.as_ref()),
+            Body::Stolen { .. } | Body::Both { .. } => unreachable!(),
         }
+    }
+
+    /// The type-5 bits of an access field, and none where there is none.
+    fn access(&self, message: Option<u16>) -> Bits
+        requires { IfSome message (λ m. m < 16384) }
+        ensures bits { result ≡ access_of self.now.settings.rows.0 self.now.keys.colour message }
+        ensures size { IfSome message (λ m. length result ≡ 30) }
+    {
+        match message {
+            Some(message) => Aach::encode(&self.settings.rows, message, &self.keys.colour),
+            None => Bits::new(),
+        }
+    }
+
+    /// A normal burst in the direction of the session.
+    fn normal(&self, train: Train, first: &Bits, access: &Bits, second: &Bits) -> [i8; 510]
+        requires train { train ≢ Train.Y }
+        requires first { length first.now ≡ 216 }
+        requires access { self.now.settings.dir ≡ Dir.Dl → length access.now ≡ 30 }
+        requires second { length second.now ≡ 216 }
+        ensures { result ≡ slot_of self.now.settings.dir access.now (Normal train first.now second.now) }
+    {
+        match self.settings.dir {
+            Dir::Dl => normal_down(train, first, access, second),
+            Dir::Ul => normal_up(train, first, second),
+        }
+    }
+
+    /// A normal burst whose blocks are the halves of a word of 432 bits.
+    fn whole(&self, train: Train, access: &Bits, word: &Bits) -> [i8; 510]
+        requires train { train ≢ Train.Y }
+        requires access { self.now.settings.dir ≡ Dir.Dl → length access.now ≡ 30 }
+        requires word { length word.now ≡ 432 }
+        ensures { result ≡ slot_of self.now.settings.dir access.now (whole train word.now) }
+    {
+        self.normal(train, &first_half(word), access, &second_half(word))
+    }
+
+    /// A control burst: the subslots that are sent.
+    fn control(&self, first: Option<&Bits>, second: Option<&Bits>) -> [i8; 510]
+        requires first { IfSome first (λ bits. length bits.now ≡ 92) }
+        requires second { IfSome second (λ bits. length bits.now ≡ 92) }
+        ensures { result ≡ control_up_slot
+            (subslot_bits self.now.keys.colour (option_map (λ bits. bits.now) first.entry))
+            (subslot_bits self.now.keys.colour (option_map (λ bits. bits.now) second.entry)) }
+    {
+        let first = first.map(|block| Hu::encode(block, &self.keys.colour));
+        let second = second.map(|block| Hu::encode(block, &self.keys.colour));
+        control_up(first.as_ref(), second.as_ref())
     }
 }

@@ -1,13 +1,9 @@
--- The rows of a table are rows of 16.
-use Rattle.std.proofs.Common.{◌≡◌, ◌≢◌, ℕ, ◌+◌, ◌<◌, ◌≤◌, inl, inr, List, [], length, get_or, set, ℤ, arith, refl, ◌∙◌, ap, get_or-set_other, get_or-set_same}
+-- The row behind the last step.
+use Rattle.std.proofs.Common.{◌≡◌, ℕ, ◌+◌, ◌<◌, List, [], length, get_or, set, ℤ, arith, refl, ◌∙◌, ap, get_or-set_same}
 use Rattle.std.proofs.Math.ListN.{length-set}
-use Rattle.std.proofs.lemmas.Bool.{cases_lt}
 use Rattle.tetra_bits.specs.Readings.{entry}
 use Rattle.tetra_puncture.specs.Plan.{CodePlan}
 use Rattle.tetra_puncture.specs.lemmas.Rows.{BackFrom, back_start}
-
-row_other : (rows : List (List ℕ)) (t u : ℕ) (new : List ℕ) → u ≢ t → get_or (set rows t new) u [] ≡ get_or rows u []
-row_other rows t u new ne = rw get_or-set_other refl
 
 row_same : (rows : List (List ℕ)) (t : ℕ) (new : List ℕ) → t < length rows → get_or (set rows t new) t [] ≡ new
 row_same rows t new lt = rw get_or-set_same refl
@@ -20,11 +16,3 @@ first_row p wide rows after new t is long made zeros =
     let same : get_or (set rows t new) t [] ≡ new = row_same rows t new (omega arith) in
     rw (made, is) (back_start p wide (set rows p.steps new) (length-set rows p.steps new ∙ omega arith)
     (λ s h. let same : get_or (set rows p.steps new) p.steps [] ≡ new = row_same rows p.steps new (omega arith) in ap (λ l. get_or l s 0) same ∙ zeros s h))
-
--- one more row of 16 is written
-pub states_more : (rows after : List (List ℕ)) (new : List ℕ) (t u n : ℕ) → u < length rows → t ≤ u + 1 → after ≡ set rows u new → length new ≡ 16 →
-    ((v : ℕ) → t ≤ v → v ≤ n → length (get_or rows v []) ≡ 16) → (v : ℕ) → u ≤ v → v ≤ n → length (get_or after v []) ≡ 16
-states_more rows after new t u n within next made states done v from inside = rw made (elim (cases_lt u v) [
-  | inl lt ↦ rw (row_other rows u v new (omega arith)) (done v (omega arith) inside)
-  | inr le ↦ let e : v ≡ u = omega arith in rw (e, row_same rows u new within) states
-])

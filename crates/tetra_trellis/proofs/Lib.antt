@@ -1,4 +1,3 @@
-pub mod Outputs
 pub mod Ways
 pub mod Back
 pub mod Shown

@@ -4,8 +4,6 @@
 
 ghost use Rattle.std.specs.Prelude.{◌≡◌, ◌≤◌, ◌+◌, length};
 
-mod costs;
-mod labels;
 mod rows;
 mod solving;
 mod tracing;

@@ -1,57 +1,37 @@
 // The rows of the potentials, each from the next.
-ghost use Rattle.std.specs.Prelude.{◌≡◌, ◌<◌, ◌≤◌, ◌+◌, ◌*◌, ◌^◌, ℕ, Bool, false, true, min, length, slice_index, slice_index_or, List, []};
+ghost use Rattle.std.specs.Prelude.{◌≡◌, ◌<◌, ◌≤◌, ◌+◌, ◌*◌, ◌^◌, ℕ, Bool, min, length, slice_index};
 ghost use Rattle.tetra_bits.specs.Readings.{entry};
 ghost use Rattle.tetra_bits.specs.Soft.{AllSoft};
+ghost use Rattle.tetra_mother.specs.Mother.{next_state};
 ghost use Rattle.tetra_puncture.specs.Decoding.{IsBackward, least_branch};
-ghost use Rattle.tetra_trellis.specs.Labels.{label_at, HasLabels};
-ghost use Rattle.tetra_trellis.specs.Rows.{by_label};
+ghost use Rattle.tetra_puncture.specs.Labels.{HasLabels};
 
-use crate::costs::{label_costs, step_values};
-use crate::labels::Labels;
 use tetra_bits::{Potentials, Wide};
-use tetra_mother::{Mother, next};
-use tetra_puncture::Plan;
+use tetra_mother::next;
+use tetra_puncture::{Labels, Plan, branch_costs};
 
-/// The cost of a branch from `state`, and the entry of the next row to which it leads.
-#[tactic(auto, unfolding(crate::specs::Rows::by_label))]
-fn over(costs: &[u32; 16], labels: &Labels, after: &[u32; 16], state: u8, bit: bool) -> u32
-    requires state { state < 16 }
-    requires labels { (s : ℕ) (b : Bool) → s < 16 → label_at labels.now s b < 16 }
-    requires small { (w : ℕ) → w < 16 → slice_index costs.now w ≤ 508 }
+/// The costs of the branches with `bit`, each with the entry of the next row to which it leads.
+fn ways(costs: &[u32; 16], after: &[u32; 16], bit: bool) -> [u32; 16]
+    requires small { (s : ℕ) → s < 16 → slice_index costs.now s ≤ 2 ^ 17 }
     requires room { (s : ℕ) → s < 16 → slice_index after.now s ≤ 2 ^ 31 }
-    ensures { result ≡ by_label costs.now labels.now after.now state bit }
-{
-    let rest = after[usize::from(next(state, bit))];
-    costs[labels.at(state, bit)] + rest
-}
-
-/// The row of the ways by bit 0.
-fn ways_by_zero(costs: &[u32; 16], labels: &Labels, after: &[u32; 16]) -> [u32; 16]
-    requires labels { (s : ℕ) (b : Bool) → s < 16 → label_at labels.now s b < 16 }
-    requires small { (w : ℕ) → w < 16 → slice_index costs.now w ≤ 508 }
-    requires room { (s : ℕ) → s < 16 → slice_index after.now s ≤ 2 ^ 31 }
-    ensures { (s : ℕ) → s < 16 → slice_index result s ≡ by_label costs.now labels.now after.now s false }
+    ensures { (s : ℕ) → s < 16
+        → slice_index result s ≡ slice_index costs.now s + slice_index after.now (next_state s bit) }
 {
     let mut row = [0; 16];
     for state in 0..16u8 {
-        row[usize::from(state)] = over(costs, labels, after, state, false);
+        let at = usize::from(state);
+        row[at] = costs[at] + after[usize::from(next(state, bit))];
     }
     row
 }
 
-/// The row of the lesser ways by both bits.
-fn lesser_ways(costs: &[u32; 16], labels: &Labels, after: &[u32; 16]) -> [u32; 16]
-    requires labels { (s : ℕ) (b : Bool) → s < 16 → label_at labels.now s b < 16 }
-    requires small { (w : ℕ) → w < 16 → slice_index costs.now w ≤ 508 }
-    requires room { (s : ℕ) → s < 16 → slice_index after.now s ≤ 2 ^ 31 }
-    ensures { (s : ℕ) → s < 16
-        → slice_index result s ≡ min (by_label costs.now labels.now after.now s false)
-        (by_label costs.now labels.now after.now s true) }
+/// The lesser of two rows, state by state.
+fn lesser(zero: &[u32; 16], one: &[u32; 16]) -> [u32; 16]
+    ensures { (s : ℕ) → s < 16 → slice_index result s ≡ min (slice_index zero.now s) (slice_index one.now s) }
 {
     let mut row = [0; 16];
-    for state in 0..16u8 {
-        let zero = over(costs, labels, after, state, false);
-        row[usize::from(state)] = zero.min(over(costs, labels, after, state, true));
+    for at in 0..16 {
+        row[at] = zero[at].min(one[at]);
     }
     row
 }
@@ -66,12 +46,13 @@ fn row_before<P: Plan>(wide: &Wide, labels: &Labels, potentials: &Potentials, t:
     requires room { (s : ℕ) → s < 16 → entry potentials.now (t + 1) s ≤ 2 ^ 31 }
     ensures { (s : ℕ) → s < 16 → slice_index result s ≡ least_branch P.plan wide.now potentials.now t s }
 {
-    let costs = label_costs(step_values::<P::Code>(wide, t));
+    let costs = branch_costs::<P>(wide, labels, t);
     let after = potentials.row(t + 1);
+    let zero = ways(&costs.zero, after, false);
     if t + 4 < P::STEPS {
-        lesser_ways(&costs, labels, after)
+        lesser(&zero, &ways(&costs.one, after, true))
     } else {
-        ways_by_zero(&costs, labels, after)
+        zero
     }
 }
 
@@ -82,7 +63,6 @@ pub fn fill<P: Plan>(wide: &Wide, labels: &Labels, potentials: &mut Potentials)
     requires soft { AllSoft wide.now }
     requires labels { HasLabels P.plan.taps P.plan.outs labels.now }
     ensures rows { length potentials.new ≡ P.plan.steps + 1 }
-    ensures states { (t : ℕ) → t ≤ P.plan.steps → length (slice_index_or potentials.new t []) ≡ 16 }
     ensures backward { IsBackward P.plan wide.now potentials.new }
     ensures small { (t s : ℕ) → t ≤ P.plan.steps → s < 16 → entry potentials.new t s ≤ 2 ^ 31 }
 {

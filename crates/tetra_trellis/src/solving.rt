@@ -1,17 +1,17 @@
 // The first-least message, its metric and the costs to go.
-ghost use Rattle.std.specs.Prelude.{◌≡◌, ◌<◌, ◌≤◌, ◌+◌, ◌*◌, ℕ, [], length, slice_index_or};
-ghost use Rattle.tetra_bits.specs.Readings.{entry};
+ghost use Rattle.std.specs.Prelude.{◌≡◌, ◌<◌, ◌≤◌, ◌+◌, ◌*◌, ℕ, length};
+ghost use Rattle.tetra_bits.specs.Readings.{entry, HasRows};
+ghost use Rattle.tetra_bits.specs.Soft.{AllWithin};
 ghost use Rattle.tetra_puncture.specs.Best.{best_of, message_metric};
 ghost use Rattle.tetra_puncture.specs.Rules.{IsAccepted};
 ghost use Rattle.tetra_puncture.specs.Spread.{spread_values};
 ghost use Rattle.tetra_puncture.specs.ToGo.{potentials_of};
 ghost use Rattle.tetra_puncture.specs.Trellis.{AllCostsToGo};
 
-use crate::labels::Labels;
 use crate::rows::fill;
 use crate::tracing::trace;
 use tetra_bits::{Bits, Potentials, Soft};
-use tetra_puncture::{Plan, spread};
+use tetra_puncture::{Labels, Plan, spread};
 
 /// What a received block is solved to. This project's own.
 #[derive(Drop)]
@@ -33,17 +33,19 @@ pub fn solve_into<P: Plan>(soft: &Soft, message: &mut Bits, potentials: &mut Pot
     ensures size { length message.new + 4 ≡ P.STEPS }
     ensures metric { result ≡ message_metric P.plan soft.now message.new }
     ensures rows { length potentials.new ≡ P.STEPS + 1 }
-    ensures states { (t : ℕ) → t ≤ P.STEPS → length (slice_index_or potentials.new t []) ≡ 16 }
+    ensures states { HasRows potentials.new }
     ensures potentials { AllCostsToGo P.plan (spread_values P.plan soft.now) potentials.new }
     ensures exact { potentials.new ≡ potentials_of P.plan soft.now }
-    ensures small { (t s : ℕ) → t ≤ P.STEPS → s < 16 → entry potentials.new t s ≤ 127 * P.SENT }
-    ensures small_metric { result ≤ 127 * P.SENT }
+    ensures within { (top t s : ℕ) → AllWithin top soft.now → t ≤ P.STEPS → s < 16
+        → entry potentials.new t s ≤ top * P.SENT }
+    ensures metric_within { (top : ℕ) → AllWithin top soft.now → result ≤ top * P.SENT }
     ensures accepted { IsAccepted P.plan (spread_values P.plan soft.now) message.new potentials.new }
 {
     let wide = spread::<P>(soft);
     let labels = Labels::of::<P::Code>();
     fill::<P>(&wide, &labels, potentials);
     trace::<P>(&wide, &labels, potentials, message);
+    let _rows = potentials.rows();
     potentials.at(0, 0)
 }
 
@@ -56,11 +58,12 @@ pub fn solve<P: Plan>(soft: &Soft) -> Solved
     ensures size { length result.message + 4 ≡ P.STEPS }
     ensures metric { result.metric ≡ message_metric P.plan soft.now result.message }
     ensures rows { length result.potentials ≡ P.STEPS + 1 }
-    ensures states { (t : ℕ) → t ≤ P.STEPS → length (slice_index_or result.potentials t []) ≡ 16 }
+    ensures states { HasRows result.potentials }
     ensures potentials { AllCostsToGo P.plan (spread_values P.plan soft.now) result.potentials }
     ensures exact { result.potentials ≡ potentials_of P.plan soft.now }
-    ensures small { (t s : ℕ) → t ≤ P.STEPS → s < 16 → entry result.potentials t s ≤ 127 * P.SENT }
-    ensures small_metric { result.metric ≤ 127 * P.SENT }
+    ensures within { (top t s : ℕ) → AllWithin top soft.now → t ≤ P.STEPS → s < 16
+        → entry result.potentials t s ≤ top * P.SENT }
+    ensures metric_within { (top : ℕ) → AllWithin top soft.now → result.metric ≤ top * P.SENT }
     ensures accepted { IsAccepted P.plan (spread_values P.plan soft.now) result.message result.potentials }
 {
     let mut message = Bits::new();

@@ -4,13 +4,11 @@ ghost use Rattle.tetra_bits.specs.Readings.{entry};
 ghost use Rattle.tetra_puncture.specs.Plan.{IsMessage};
 ghost use Rattle.tetra_puncture.specs.Trellis.{over_branch};
 ghost use Rattle.tetra_puncture.specs.Decoding.{IsTraced};
-ghost use Rattle.tetra_trellis.specs.Labels.{HasLabels};
+ghost use Rattle.tetra_puncture.specs.Labels.{HasLabels};
 
-use crate::costs::{label_costs, step_values};
-use crate::labels::Labels;
 use tetra_bits::{Bits, Potentials, Wide};
-use tetra_mother::{Mother, next};
-use tetra_puncture::Plan;
+use tetra_mother::next;
+use tetra_puncture::{Labels, Plan, branch_cost};
 
 /// The cost of `bit` at step `t` from `state`, and the potential to which it leads.
 fn over<P: Plan>(
@@ -30,9 +28,8 @@ fn over<P: Plan>(
     requires state { state < 16 }
     ensures { result ≡ over_branch P.plan wide.now potentials.now t state bit }
 {
-    let costs = label_costs(step_values::<P::Code>(wide, t));
     let rest = potentials.at(t + 1, usize::from(next(state, bit)));
-    costs[labels.at(state, bit)] + rest
+    branch_cost::<P>(wide, labels, t, state, bit) + rest
 }
 
 /// Follows the potentials from state 0 on: a bit is 0 where bit 0 reaches the potential.

@@ -1,7 +1,7 @@
 -- How great costs can be.
 use Rattle.std.proofs.Common.{ℕ, ◌+◌, ◌*◌, ◌≤◌, Bool, List, length, arith}
 use Rattle.std.specs.Prelude.{ℤ, nat_abs}
-use Rattle.tetra_bits.specs.Cost.{cost, metric}
+use Rattle.tetra_bits.specs.Cost.{cost}
 use Rattle.tetra_bits.specs.Soft.{IsSoft, AllSoft, AllWithin, value_at}
 use Rattle.tetra_bits.specs.declared.soft.TheConstants.{SOFT_MAX}
 use Rattle.tetra_bits.specs.lemmas.Within.{cost_within, soft_at, sum_within, metric_within}

@@ -26,17 +26,9 @@ cancel_right true false false u e h = cc
 cancel_right false true true u e h = cc
 cancel_right false true false u e h = cc
 
-add2_none : (x : Bool) → add2 false x ≡ x
-add2_none x = refl
-
 and_true : (x : Bool) → (x && true) ≡ x
 and_true true = refl
 and_true false = refl
-
--- the five parts of an output
-unfold_output : (g : ℕ → ℕ → Bool) (bits : List Bool) (k i : ℕ) → output g bits k i ≡ sum2 (term g bits k i) 5
-unfolding output
-unfold_output g bits k i = refl
 
 -- an earlier bit is the same
 earlier : (a b : List Bool) (n j : ℕ) → 1 ≤ j → ((k : ℕ) → k < n → get_or a k false ≡ get_or b k false)

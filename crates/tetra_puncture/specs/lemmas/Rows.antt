@@ -180,9 +180,6 @@ module _ (p : CodePlan) (wide : List ℤ) (rows : List (List ℕ)) (new : List �
     small = new_small;
   }
 
-pub back_backward : (p : CodePlan) (wide : List ℤ) (rows : List (List ℕ)) → BackFrom p wide rows 0 → IsBackward p wide rows
-back_backward p wide rows done = record { end = done.end; before = λ t s inside h. done.before t s (omega arith) inside h }
-
 -- the bits before step t, which lead to this state
 pub record TracedTo (p : CodePlan) (wide : List ℤ) (rows : List (List ℕ)) (m : List Bool) (state t : ℕ) : Type 0 where
   pub long : length m ≡ t

@@ -5,7 +5,7 @@ use Rattle.std.proofs.lemmas.Bool.{cases_eq, cases_lt}
 use Rattle.std.proofs.lemmas.Bool.Decides.{nat_tests}
 use Rattle.tetra_bits.specs.Numbered.{is_numbered, get_or-numbered, length-numbered}
 use Rattle.tetra_bits.specs.Soft.{value_at}
-use Rattle.tetra_puncture.specs.Plan.{CodePlan, PlacesRise, PlacesLie}
+use Rattle.tetra_puncture.specs.Plan.{CodePlan, PlacesRise}
 use Rattle.tetra_puncture.specs.lemmas.Front.{rise_far}
 use Rattle.tetra_puncture.specs.Spread.{IsSpread, value_among, spread_value, spread_values}
 
@@ -75,16 +75,3 @@ value_at_spread p r k h = get_or-numbered (spread_value p r) (p.outs * p.steps) 
 pub length-spread_values : (p : CodePlan) (r : List ℤ) → length (spread_values p r) ≡ p.outs * p.steps
 unfolding spread_values
 length-spread_values p r = length-numbered (spread_value p r) (p.outs * p.steps)
-
--- the spread values are each sent value at its place, and 0 elsewhere
-pub values_are_spread : (p : CodePlan) (r : List ℤ) → PlacesRise p → PlacesLie p → IsSpread p r (spread_values p r)
-values_are_spread p r rise lie = record {
-  size = length-spread_values p r;
-  placed = λ j a b.
-      let low = lie j a b in
-      let back : p.place j - 1 + 1 ≡ p.place j = omega arith in
-      value_at_spread p r (p.place j - 1) (omega arith) ∙ ap (spread_value p r) back ∙ value_sent p r rise j a b;
-  rest = λ v a b unsent.
-      let back : v - 1 + 1 ≡ v = omega arith in
-      value_at_spread p r (v - 1) (omega arith) ∙ ap (spread_value p r) back ∙ value_not_sent p r v unsent;
-}

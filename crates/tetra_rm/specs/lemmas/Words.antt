@@ -1,8 +1,7 @@
 -- The words of messages.
-use Rattle.std.proofs.Common.{◌≡◌, ℕ, ◌+◌, ◌<◌, ◌⊎◌, inl, inr, Bool, List, ◌++◌, length, length-append, take, arith, refl, ap, sym, ◌∙◌}
+use Rattle.std.proofs.Common.{◌≡◌, ℕ, ◌+◌, ◌<◌, ◌⊎◌, inl, inr, Bool, List, ◌++◌, length, length-append, take, ap, sym, ◌∙◌}
 use Rattle.std.proofs.Math.Seq.{take-append_seam}
 use Rattle.std.specs.Prelude.{ℤ}
-use Rattle.tetra_bits.specs.Cost.{metric}
 use Rattle.tetra_bits.specs.Digits.{digits}
 use Rattle.tetra_bits.specs.Undamaged.{IsUndamaged}
 use Rattle.tetra_bits.specs.lemmas.Written.{written_free, others_cost, free_is_best}

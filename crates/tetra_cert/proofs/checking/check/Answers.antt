@@ -5,7 +5,7 @@ use Rattle.tetra_puncture.specs.lemmas.Checking.{checked_none, checked_more}
 use Rattle.tetra_puncture.specs.Trellis.{bit_taken}
 use Rattle.tetra_puncture.specs.Certified.{Fits}
 use Rattle.tetra_cert.specs.Checked.{IsRight, IsSound, IsFirstOfStates}
-use Rattle.tetra_cert.proofs.Places.{right_is_verdict}
+use Rattle.tetra_cert.specs.lemmas.Places.{right_is_verdict}
 use Rattle.tetra_cert.proofs.Verdicts.{accepted, refused, not_accepted, certified}
 use Rattle.tetra_cert.proofs.checking.check.Goals as goal
 

@@ -1,5 +1,7 @@
-use Rattle.tetra_rm.proofs.Least.{metric_of_number, IsFirstBelow}
+use Rattle.std.proofs.Common.{◌*◌}
+use Rattle.tetra_rm.specs.Search.{IsFirstAmong}
 use Rattle.tetra_rm.proofs.searching.decode.Given as goal
 
-abbrev pub invariant-loop-message : goal.invariant-loop-message
-invariant-loop-message l = IsFirstBelow (metric_of_number l.rows.0 l.soft) l.message l.best
+-- the halves so far
+abbrev pub invariant-loop-upper : goal.invariant-loop-upper
+invariant-loop-upper l = IsFirstAmong l.rows.0 l.soft 0 (l.upper * 128) l.best

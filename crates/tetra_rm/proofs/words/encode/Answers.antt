@@ -1,4 +1,4 @@
-use Rattle.std.proofs.Common.{◌≡◌, ◌++◌, ap, ◌∙◌}
+use Rattle.std.proofs.Common.{◌++◌, ap, ◌∙◌}
 use Rattle.tetra_bits.specs.Digits.{digits}
 use Rattle.tetra_rm.specs.Code.{access_word}
 use Rattle.tetra_rm.proofs.words.encode.Goals as goal

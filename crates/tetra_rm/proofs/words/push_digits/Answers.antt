@@ -1,4 +1,4 @@
-use Rattle.std.proofs.Common.{ℕ, ◌≡◌, ◌+◌, ◌-◌, ◌/◌, ◌%◌, ◌^◌, ◌++◌, ◌∷◌, [], ◌≤◌, ◌<◌, nat_eq, length, length-append, append_assoc, append-nil, arith, refl, ap, sym, ◌∙◌}
+use Rattle.std.proofs.Common.{◌≡◌, ◌+◌, ◌-◌, ◌/◌, ◌%◌, ◌^◌, ◌++◌, ◌∷◌, [], nat_eq, length, length-append, append_assoc, append-nil, arith, ap, sym, ◌∙◌}
 use Rattle.tetra_bits.specs.Digits.{digit, digits}
 use Rattle.tetra_bits.specs.Numbered.{numbered, numbered_none, numbered_more, length-numbered}
 use Rattle.tetra_rm.specs.lemmas.Numbers.{length-digits}

@@ -1,6 +1,5 @@
-use Rattle.std.proofs.Common.{ℕ, ◌≡◌, ◌+◌, ◌-◌, ◌/◌, ◌%◌, ◌^◌, ◌<◌, Bool, true, false, nat_eq, get_or, arith, refl, ap, sym, ◌∙◌}
+use Rattle.std.proofs.Common.{◌≡◌, ◌+◌, ◌-◌, ◌/◌, ◌%◌, ◌^◌, true, false, nat_eq, get_or, arith, refl, ap, ◌∙◌}
 use Rattle.std.proofs.lemmas.Bool.Decides.{nat_tests}
-use Rattle.std.specs.Prelude.{cond}
 use Rattle.tetra_bits.specs.Digits.{digits}
 use Rattle.tetra_rm.specs.Code.{row_part}
 use Rattle.tetra_rm.specs.lemmas.Numbers.{digit_at}

@@ -1,4 +1,4 @@
-use Rattle.std.proofs.Common.{ℕ, ◌≡◌, ◌+◌, suc, arith, refl, ap, sym, ◌∙◌}
+use Rattle.std.proofs.Common.{◌≡◌, ◌+◌, suc, arith, refl, ap, ◌∙◌}
 use Rattle.tetra_bits.specs.Digits.{digits}
 use Rattle.tetra_rm.specs.Code.{rows_sum}
 use Rattle.tetra_rm.proofs.words.sum_of_rows.Goals as goal

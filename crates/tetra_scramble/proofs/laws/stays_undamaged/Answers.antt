@@ -1,4 +1,4 @@
-use Rattle.tetra_scramble.proofs.Entries.{stays_undamaged}
+use Rattle.tetra_scramble.specs.lemmas.Entries.{stays_undamaged}
 use Rattle.tetra_scramble.proofs.laws.stays_undamaged.Goals as goal
 
 pub returns : goal.returns

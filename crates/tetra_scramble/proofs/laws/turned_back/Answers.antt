@@ -1,4 +1,4 @@
-use Rattle.tetra_scramble.proofs.Entries.{turned_back}
+use Rattle.tetra_scramble.specs.lemmas.Entries.{turned_back}
 use Rattle.tetra_scramble.proofs.laws.turned_back.Goals as goal
 
 pub returns : goal.returns

@@ -1,38 +1,38 @@
-use Rattle.std.proofs.Common.{ℕ, get_or, arith, ap, sym, subst}
+use Rattle.std.proofs.Common.{get_or, arith, ap, true, false}
 use Rattle.tetra_bits.specs.Readings.{entry}
-use Rattle.tetra_trellis.specs.Labels.{IsStep}
-use Rattle.tetra_trellis.proofs.Outputs.{labels_small}
-use Rattle.tetra_trellis.proofs.Ways.{row_both, row_tail}
+use Rattle.tetra_trellis.proofs.Ways.{way_is, row_both, row_tail}
 use Rattle.tetra_trellis.proofs.rows.row_before.Goals as goal
 
-pub lesser_ways-requires-clause-labels : goal.lesser_ways-requires-clause-labels
-lesser_ways-requires-clause-labels g c = labels_small _ _ _ c.requires.labels
-
-pub lesser_ways-requires-clause-room : goal.lesser_ways-requires-clause-room
+pub ways-zero-requires-clause-room : goal.ways-zero-requires-clause-room
 unfolding entry
-lesser_ways-requires-clause-room g c = λ s h. omega (arith, ap (λ l. get_or l s 0) c.row-after.ensures, c.requires.room s h)
+ways-zero-requires-clause-room g c = λ s h. omega (arith, ap (λ l. get_or l s 0) c.row-after.ensures.row, c.requires.room s h)
 
-pub ways_by_zero-requires-clause-labels : goal.ways_by_zero-requires-clause-labels
-ways_by_zero-requires-clause-labels g c = labels_small _ _ _ c.requires.labels
-
-pub ways_by_zero-requires-clause-room : goal.ways_by_zero-requires-clause-room
+pub ways-requires-clause-room : goal.ways-requires-clause-room
 unfolding entry
-ways_by_zero-requires-clause-room g c = λ s h. omega (arith, ap (λ l. get_or l s 0) c.row-after.ensures, c.requires.room s h)
+ways-requires-clause-room g c = λ s h. omega (arith, ap (λ l. get_or l s 0) c.row-after.ensures.row, c.requires.room s h)
 
 pub returns-then-t-STEPS : goal.returns-then-t-STEPS
 returns-then-t-STEPS g c =
-    let law = g.met.P.Plan in
-    let few = law.sizes c.requires.sound in
-    let step : IsStep g.P.Plan.plan.outs c.args.wide.now c.args.t c.step_values.result =
-    subst (λ (o : ℕ). IsStep o c.args.wide.now c.args.t c.step_values.result) (sym law.same_outs) c.step_values.ensures.step in
-    row_both g.P.Plan.plan c.args.wide.now c.step_values.result c.label_costs-costs.result c.row-after.result.now c.lesser_ways.result c.args.labels.now c.args.potentials.now c.args.t
-    few.few_outs.1 (omega (arith, law.same_steps, c.STEPS.ensures)) c.row-after.ensures step c.label_costs-costs.ensures.value c.requires.labels c.lesser_ways.ensures
+    let p = g.P.Plan.plan in
+    let wide = c.args.wide.now in
+    let table = c.args.potentials.now in
+    let t = c.args.t in
+    let after = c.row-after.result.now in
+    let is = c.row-after.ensures.row in
+    row_both p wide table t after is c.ways-zero.result c.ways.result c.lesser.result
+    (omega (arith, g.met.P.Plan.same_steps, c.STEPS.ensures))
+    (way_is p wide table t after is false c.branch_costs-costs.result.zero c.ways-zero.result c.branch_costs-costs.ensures.zero c.ways-zero.ensures)
+    (way_is p wide table t after is true c.branch_costs-costs.result.one c.ways.result c.branch_costs-costs.ensures.one c.ways.ensures)
+    c.lesser.ensures
 
 pub returns-else-t-STEPS : goal.returns-else-t-STEPS
 returns-else-t-STEPS g c =
-    let law = g.met.P.Plan in
-    let few = law.sizes c.requires.sound in
-    let step : IsStep g.P.Plan.plan.outs c.args.wide.now c.args.t c.step_values.result =
-    subst (λ (o : ℕ). IsStep o c.args.wide.now c.args.t c.step_values.result) (sym law.same_outs) c.step_values.ensures.step in
-    row_tail g.P.Plan.plan c.args.wide.now c.step_values.result c.label_costs-costs.result c.row-after.result.now c.ways_by_zero.result c.args.labels.now c.args.potentials.now c.args.t
-    few.few_outs.1 (omega (arith, law.same_steps, c.STEPS.ensures)) c.row-after.ensures step c.label_costs-costs.ensures.value c.requires.labels c.ways_by_zero.ensures
+    let p = g.P.Plan.plan in
+    let wide = c.args.wide.now in
+    let table = c.args.potentials.now in
+    let t = c.args.t in
+    let after = c.row-after.result.now in
+    let is = c.row-after.ensures.row in
+    row_tail p wide table t after is c.ways-zero.result
+    (omega (arith, g.met.P.Plan.same_steps, c.STEPS.ensures))
+    (way_is p wide table t after is false c.branch_costs-costs.result.zero c.ways-zero.result c.branch_costs-costs.ensures.zero c.ways-zero.ensures)

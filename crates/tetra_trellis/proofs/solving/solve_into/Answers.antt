@@ -1,5 +1,5 @@
-use Rattle.std.proofs.Common.{◌+◌, ap, sym, subst, arith, rules, ◌∙◌}
-use Rattle.tetra_bits.specs.Soft.{AllSoft}
+use Rattle.std.proofs.Common.{ℕ, ◌≤◌, ◌*◌, ◌+◌, ap, sym, subst, arith, ◌∙◌}
+use Rattle.tetra_bits.specs.Readings.{entry}
 use Rattle.tetra_puncture.specs.Certified.{Fits}
 use Rattle.tetra_puncture.specs.Decoding.{IsBackward, IsTraced}
 use Rattle.tetra_trellis.proofs.Shown.{IsSolved, solved}
@@ -19,9 +19,7 @@ returns g c =
       message = c.trace.ensures.message;
       values = c.requires.size ∙ sym law.same_sent;
     } in
-    let soft : AllSoft c.spread-wide.result = search rules in
-    let all : IsSolved p r m table = solved p r m table fits
-    (subst AllSoft c.spread-wide.ensures.values soft) c.fill.ensures.rows c.fill.ensures.states
+    let all : IsSolved p r m table = solved p r m table fits c.fill.ensures.rows c.rows-rows.ensures.sixteen
     (subst (λ wide. IsBackward p wide table) c.spread-wide.ensures.values c.fill.ensures.backward)
     (subst (λ wide. IsTraced p wide table m) c.spread-wide.ensures.values c.trace.ensures.traced) in
     record {
@@ -29,10 +27,13 @@ returns g c =
       size = c.trace.ensures.message ∙ law.same_steps;
       metric = c.at.ensures ∙ all.metric;
       rows = c.fill.ensures.rows ∙ ap (λ n. n + 1) law.same_steps;
-      states = λ t within. c.fill.ensures.states t (omega (arith, law.same_steps));
+      states = c.rows-rows.ensures.sixteen;
       potentials = all.costs;
       exact = all.exact;
-      small = λ t s within h. omega (arith, law.same_steps, law.same_sent, all.small t s (omega (arith, law.same_steps)) h);
-      small_metric = omega (arith, law.same_sent, c.at.ensures, all.small 0 0 (omega arith) (omega arith));
+      within = λ top t s soft inside h.
+          subst (λ (n : ℕ). entry table t s ≤ top * n) law.same_sent (all.within top t s soft (omega (arith, law.same_steps)) h);
+      metric_within = λ top soft.
+          let small : entry table 0 0 ≤ top * p.sent = all.within top 0 0 soft (omega arith) (omega arith) in
+          subst (λ (n : ℕ). c.at.result ≤ top * n) law.same_sent (omega (arith, c.at.ensures, small));
       accepted = all.accepted;
     }

@@ -1,5 +1,5 @@
 use Rattle.std.proofs.Common.{length, ap, ◌∙◌}
-use Rattle.tetra_scramble.proofs.Entries.{length-flipped}
+use Rattle.tetra_scramble.specs.lemmas.Entries.{length-flipped}
 use Rattle.tetra_channels.proofs.raw.Raw72.encode.Goals as goal
 
 pub returns-clause-size : goal.returns-clause-size

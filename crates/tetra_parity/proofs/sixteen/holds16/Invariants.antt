@@ -1,7 +1,0 @@
-use Rattle.std.proofs.Common.{◌≡◌, ℕ, ◌+◌, ◌<◌}
-use Rattle.tetra_bits.specs.Order.{bit_at}
-use Rattle.tetra_bits.specs.Digits.{digit}
-use Rattle.tetra_parity.proofs.sixteen.holds16.Given as goal
-
-abbrev pub invariant-loop-i : goal.invariant-loop-i
-invariant-loop-i l = (k : ℕ) → k < l.i → bit_at l.message (l.size + k) ≡ digit 16 l.parity (k + 1)

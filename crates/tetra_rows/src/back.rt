@@ -1,0 +1,86 @@
+// No clause says that the letters of both directions, their layouts and their lengths are the ones that are written
+// down. These are blocks that were worked out by hand, sent and read back.
+use crate::bytes::bytes;
+use crate::runs::{SURE, run_over};
+use std::test::Fail;
+
+/// Words behind the command, the block records, and the reading records of the slots that are sent for them.
+#[derive(Clone, Copy)]
+struct Back {
+    words: &'static str,
+    blocks: &'static str,
+    readings: &'static str,
+    slots: usize,
+}
+
+const BACK: [Back; 8] = [
+    Back {
+        words: "",
+        blocks: "46 00 04 34*00",
+        readings: "46 55 00 00 00 04 47 00 00 33*00 07 D7 40",
+        slots: 1,
+    },
+    Back {
+        words: "",
+        blocks: "53 00 00 8*00 16*00",
+        readings: "53 55 00 00 00 00 47 00 00 7*00 01 2F 00 47 00 00 15*00 05 34 B0",
+        slots: 1,
+    },
+    Back {
+        words: "mcc=901 mnc=16383 cc=1",
+        blocks: "48 FF FC 32*00 53 00 00 24*00",
+        readings: "48 55 00 00 FF FC 47 00 00 15*00 05 34 B0 47 00 00 15*00 05 34 B0 \
+            53 55 00 00 00 00 47 00 00 7*00 01 2F 00 47 00 00 15*00 05 34 B0",
+        slots: 2,
+    },
+    Back {
+        words: "ts1=d72",
+        blocks: "54 80 00 54*00",
+        readings: "54 55 00 00 80 00 55 00 00 54*00",
+        slots: 1,
+    },
+    Back {
+        words: "at=68 ts1=d72",
+        blocks: "46 00 00 34*00",
+        readings: "46 55 00 00 00 00 47 00 00 33*00 07 D7 40",
+        slots: 1,
+    },
+    Back {
+        words: "dir=ul ts1=cb",
+        blocks: "43 40 12*00",
+        readings: "43 42 00 00 14*00 47 00 00 11*00 06 EA 20",
+        slots: 1,
+    },
+    Back {
+        words: "dir=ul ts1=cb",
+        blocks: "43 00",
+        readings: "43 42 00 00 14*00 42 00 00 14*00",
+        slots: 1,
+    },
+    Back {
+        words: "dir=ul ts1=d72 at=64",
+        blocks: "54 54*00 46 34*00 46 34*00 46 34*00 46 34*00 46 34*00 46 34*00 46 34*00 54 54*00",
+        readings: "54 55 00 00 54*00 46 47 00 00 33*00 07 D7 40 46 47 00 00 33*00 07 D7 40 \
+            46 47 00 00 33*00 07 D7 40 46 47 00 00 33*00 07 D7 40 46 47 00 00 33*00 07 D7 40 \
+            46 47 00 00 33*00 07 D7 40 46 47 00 00 33*00 07 D7 40 54 55 00 00 54*00",
+        slots: 9,
+    },
+];
+
+#[test]
+fn sent_and_read_back(rt: HostRuntime) -> Result<(), Fail> {
+    for row in &BACK {
+        let blocks = bytes(rt.alloc(), row.blocks)?;
+        let readings = bytes(rt.alloc(), row.readings)?;
+        let end = format!(in rt.alloc(); "0 {} ", row.slots)?;
+        let words = format!(in rt.alloc(); "encode {}", row.words)?;
+        let sent = run_over(rt.alloc(), &words, &blocks, SURE, 5_000)?;
+        assert_eq!(rt; sent.end.as_str(), end.as_str(), "{words} of {}", row.blocks);
+        assert_eq!(rt; sent.output.len(), 510 * row.slots, "{words} of {}", row.blocks);
+        let words = format!(in rt.alloc(); "decode {}", row.words)?;
+        let read = run_over(rt.alloc(), &words, &sent.output, SURE, 5_000)?;
+        assert_eq!(rt; read.end.as_str(), end.as_str(), "{words} of {}", row.blocks);
+        assert!(rt; read.output == readings, "{words} of {}", row.blocks);
+    }
+    Ok(())
+}

@@ -1,0 +1,73 @@
+-- How a field is read, by its name. This project's own.
+use Rattle.std.specs.Prelude.{ℕ, Bool, false, List, [], ℤ, replicate, map, None, Some}
+use Rattle.std.specs.declared.option.Option.{Option}
+use Rattle.tetra_bits.specs.declared.reading.Mark.TheVariants.{NotYet}
+use Rattle.tetra_bits.specs.declared.reading.Reading.{Reading}
+use Rattle.tetra_channels.specs.Channels.{Channel, bsch, hu, half, full, data48, data24, front_values}
+use Rattle.tetra_channels.specs.Fields.{coded_reading, raw_reading, access_reading}
+use Rattle.tetra_scramble.specs.Flips.{turned}
+use Rattle.tetra_settings.specs.Readings.{message_bits}
+use Rattle.tetra_settings.specs.declared.readings.FieldName.{FieldName}
+use Rattle.tetra_settings.specs.declared.readings.FieldName.TheVariants.{Aach, Sync, Half, Hu, Full, D72, D48, D24, Whole, Single}
+use Rattle.tetra_settings.specs.declared.readings.Field.{Field}
+use Rattle.tetra_settings.specs.declared.readings.SlotReading.{SlotReading}
+use Rattle.tetra_session.specs.declared.front.FrontField.{FrontField}
+use Rattle.tetra_session.specs.declared.front.Front.{Front}
+
+-- by the access code, bit by bit, by the code of a channel, or not yet: speech has no reader so far
+pub data Reader : Type 0 where
+  pub Access : Reader
+  pub Plain : Reader
+  pub Trellis : Channel → Reader
+  pub NotBuilt : Reader
+
+abbrev pub reader : FieldName → Reader
+reader Aach = Access
+reader Sync = Trellis bsch
+reader Half = Trellis half
+reader Hu = Trellis hu
+reader Full = Trellis full
+reader D72 = Plain
+reader D48 = Trellis data48
+reader D24 = Trellis data24
+reader Whole = NotBuilt
+reader Single = NotBuilt
+
+-- the channel by whose code a field is read, where there is one
+abbrev pub channel_of : Reader → Option Channel
+channel_of Access = None
+channel_of Plain = None
+channel_of (Trellis channel) = Some channel
+channel_of NotBuilt = None
+
+-- received type-5 values of a field after its key, in the order of its type-3 bits where it has a code
+abbrev pub heard_by : Reader → List Bool → List ℤ → List ℤ
+heard_by Access key values = turned values key 1
+heard_by Plain key values = turned values key 1
+heard_by (Trellis channel) key values = front_values channel key values
+heard_by NotBuilt key values = []
+
+-- what is read of such values
+abbrev pub read_by : Reader → List ℕ → List ℤ → Reading
+read_by Access rows soft = access_reading rows soft
+read_by Plain rows soft = raw_reading soft
+read_by (Trellis channel) rows soft = coded_reading channel soft
+read_by NotBuilt rows soft = raw_reading soft
+
+-- the reading of a field of which not all slots have come yet
+unfoldable pub not_yet : FieldName → Reading
+not_yet name = record { mark = NotYet; metric = 0; bits = replicate (message_bits name) false; potentials = None }
+
+-- the reading of a field by its name and its values. The rows are those of the access code
+abbrev pub field_reading : List ℕ → FieldName → Option (List ℤ) → Reading
+field_reading rows name None = not_yet name
+field_reading rows name (Some soft) = read_by (reader name) rows soft
+
+-- a field of a front, read
+unfoldable pub read_field : List ℕ → FrontField → Field
+read_field rows field = record { name = field.name; reading = field_reading rows field.name field.soft }
+
+-- a front, read
+unfoldable pub read_front : List ℕ → Front → SlotReading
+read_front rows front =
+    record { letter = front.letter; fields = record { items = map (read_field rows) front.fields.items } }

@@ -1,9 +1,0 @@
-use Rattle.std.proofs.Common.{◌≡◌, ℕ, ◌<◌, true, false, min, length, get_or}
-use Rattle.tetra_trellis.specs.Rows.{by_label}
-use Rattle.tetra_trellis.proofs.rows.lesser_ways.Given as goal
-
-abbrev pub invariant-loop-state : goal.invariant-loop-state
-invariant-loop-state l = record {
-  long : length l.row ≡ 16;
-  made : (s : ℕ) → s < l.state → get_or l.row s 0 ≡ min (by_label l.costs l.labels l.after s false) (by_label l.costs l.labels l.after s true);
-}

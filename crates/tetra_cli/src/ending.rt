@@ -18,7 +18,8 @@ pub enum Ending {
 
 /// Writes a text with a newline behind it, or nothing where it is empty. What the sink does not take is lost.
 fn say<K: Sink>(sink: &mut K, text: &str)
-    ensures { IsWritten (K.taken sink.old) (K.taken sink.new) (K.faults sink.old) (K.faults sink.new) (spoken text.now) }
+    ensures { IsWritten (K.taken sink.old) (K.taken sink.new) (K.faults sink.old) (K.faults sink.new)
+        (spoken text.now) }
 {
     if text.is_empty() {
         return;

@@ -1,7 +1,7 @@
 //! The program: hands its words, standard input and standard output to a run.
 //!
-//! It says on standard error why the run ended, and ends with the number that belongs to that end, with 7 where there is
-//! no memory for the words, and with 9 where the system does not give them for another cause.
+//! It says on standard error why the run ended, and ends with the number that belongs to that end, with 7 where there
+//! is no memory for the words, and with 9 where the system does not give them for another cause.
 #![tactic(auto)]
 
 mod ending;

@@ -9,8 +9,7 @@ use Rattle.tetra_settings.specs.declared.types.Settings.{Settings}
 use Rattle.tetra_records.specs.Readings.{reading_spelling}
 use Rattle.tetra_session.specs.Arrives.{SlotRead}
 use Rattle.tetra_session.specs.Built.{IsBuilt}
-use Rattle.tetra_session.specs.Sent.{slot_written}
-use Rattle.tetra_session.specs.Undamaged.{KeepsSlot}
+use Rattle.tetra_session.specs.Sent.{slot_written, KeepsSlot}
 use Rattle.tetra_engine.specs.declared.status.Status.TheVariants.{Done}
 use Rattle.tetra_engine.specs.declared.status.End.{End}
 use Rattle.tetra_engine.specs.Agreeing.{to_read_back}
@@ -22,7 +21,7 @@ use Rattle.tetra_engine.specs.Slots.{soft_values, slot_bytes}
 
 -- a received slot is undamaged against the one that was written for blocks behind those before
 abbrev pub IsKept : Settings → List SlotBlocks → SlotBlocks → List ℕ → Type 0
-IsKept settings before blocks slot = KeepsSlot (slot_written settings before blocks) (soft_values slot)
+IsKept settings before blocks slot = KeepsSlot settings before blocks (soft_values slot)
 
 -- Received slots, one for each of the blocks behind those before: each of 510 bytes, and undamaged or of a letter that
 -- is built.

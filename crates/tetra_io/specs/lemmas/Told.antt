@@ -25,7 +25,8 @@ pub AreTold-end : (a : Option (List ℕ)) → IsAtEnd a → AreTold a []
 AreTold-end None e = tt
 AreTold-end (Some x) e = e
 
-pub AreTold-behind : (a b : Option (List ℕ)) (bs rest : List ℕ) → Consumes a b bs → AreTold b rest → AreTold a (bs ++ rest)
+pub AreTold-behind : (a b : Option (List ℕ)) (bs rest : List ℕ)
+    → Consumes a b bs → AreTold b rest → AreTold a (bs ++ rest)
 AreTold-behind None b bs rest p q = tt
 AreTold-behind (Some x) None bs rest p q = absurd p
 AreTold-behind (Some x) (Some y) bs rest p q = p ∙ ap (λ l. bs ++ l) q

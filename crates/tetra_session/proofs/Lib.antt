@@ -1,6 +1,6 @@
-pub mod Arriving
 pub mod BuiltLemmas
 pub mod Fitting
+pub mod Sending
 pub mod OneField
 pub mod Answering
 pub mod ApartLemmas

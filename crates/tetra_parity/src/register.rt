@@ -5,8 +5,8 @@ ghost use Rattle.tetra_parity.specs.Register.{IsGenerator, shifted_by};
 
 use tetra_bits::Bits;
 
-/// `X^DEGREE M(X)` modulo a generator, where `M(X)` is the sum of `b(k) X^(size - k)` over the first `size` bits: what a
-/// register holds behind them. Bit i of `GENERATOR` is the coefficient of `X^i`; its degree is `DEGREE`, at most 16.
+/// `X^DEGREE M(X)` modulo a generator, where `M(X)` is the sum of `b(k) X^(size - k)` over the first `size` bits: what
+/// a register holds behind them. Bit i of `GENERATOR` is the coefficient of `X^i`; its degree is `DEGREE`, at most 16.
 pub fn register_of<const DEGREE: usize, const GENERATOR: u32>(bits: &Bits, size: usize) -> u32
     requires generator { IsGenerator DEGREE GENERATOR }
     requires there { size ≤ length bits.now }

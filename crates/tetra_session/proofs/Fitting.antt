@@ -88,6 +88,11 @@ access_there Dl (Some message) h e = (message, refl, h)
 access_there Dl None h e = absurd h
 access_there Ul aach h e = absurd cc
 
+pub access_none : (dir : Dir) (aach : Option ℕ) → FitsAccess dir aach → dir ≡ Ul → aach ≡ None
+access_none Ul None h e = refl
+access_none Ul (Some message) h e = absurd h
+access_none Dl aach h e = absurd cc
+
 -- a subslot that is sent
 subs_sizes : (mode : Mode) (first second : Option (List Bool)) → HasLengths mode (Control first second)
     → IfSome first (λ bits. length bits ≡ 92) × IfSome second (λ bits. length bits ≡ 92)

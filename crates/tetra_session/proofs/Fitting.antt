@@ -15,7 +15,7 @@ use Rattle.tetra_settings.specs.declared.blocks.Body.{Body}
 use Rattle.tetra_settings.specs.declared.blocks.Body.TheVariants.{Full, Halves, Sync, Traffic, Control}
 use Rattle.tetra_settings.specs.declared.blocks.SlotBlocks.{SlotBlocks}
 use Rattle.tetra_session.specs.Built.{is_built, is_built_mode}
-use Rattle.tetra_session.proofs.BuiltLemmas.{mode_built}
+use Rattle.tetra_session.specs.lemmas.Modes.{mode_built}
 
 -- what carries a letter
 pub signalling_f : (dir : Dir) (slot : SlotUse) → IsTrue (is_allowed dir slot F) → slot ≡ Signalling

@@ -1,9 +1,5 @@
-pub mod BuiltLemmas
 pub mod Fitting
 pub mod Sending
-pub mod OneField
 pub mod Answering
 pub mod ApartLemmas
 pub mod SlotsArriving
-pub mod FieldLemmas
-pub mod Written

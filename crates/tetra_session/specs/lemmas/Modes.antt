@@ -1,4 +1,4 @@
--- Settings that are built.
+-- The modes of settings that are built.
 use Rattle.std.proofs.Common.{ℕ, ◌-◌, ◌≡◌, inl, inr, Bool, true, false, List, length, get_or, refl, sym, ap, ◌∙◌}
 use Rattle.std.proofs.lemmas.Bool.{cases_lt}
 use Rattle.std.proofs.lemmas.List.{get_or_past}

@@ -10,11 +10,12 @@ use Rattle.tetra_bursts.specs.Table.{is_part, number}
 use Rattle.tetra_bursts.specs.Slot.{Carried, with_pairs, bits_of, level, written, read}
 use Rattle.tetra_bursts.specs.Laws.{part_at, number_at, part_bit, part_value}
 use Rattle.tetra_bursts.specs.Arrives.{is_free, KeepsBy}
+use Rattle.tetra_bursts.specs.lemmas.Joined.{undamaged_both}
 use Rattle.tetra_bursts.specs.declared.table.Part.{Part}
 use Rattle.tetra_bursts.specs.declared.table.Part.TheVariants.{Silent, Tail, Training, Q, X, Frequency, First, Second, Aach, Sync, Pairs}
 use Rattle.tetra_bursts.specs.declared.table.Span.{Span}
 use Rattle.tetra_bursts.specs.declared.table.Train.TheVariants.{N, P, Y}
-use Rattle.tetra_bursts.proofs.Closing.{written_size}
+use Rattle.tetra_bursts.specs.lemmas.Written.{written_size}
 use Rattle.tetra_bursts.proofs.TableLemmas.{written_at}
 
 -- so many bits of a list, the first few left out
@@ -55,25 +56,6 @@ both_taken bits m n l =
           get_or-append_right (taken bits 0 m) (taken bits m n) m k false (taken_size bits 0 m) above
           ∙ taken_bit bits m n (k - m) (omega arith) ∙ ap (bit_at bits) place
     ])
-
--- undamaged pieces, one behind the other
-pub undamaged_both : (a b : List Bool) (v w : List ℤ) → IsUndamaged a v → IsUndamaged b w → IsUndamaged (a ++ b) (v ++ w)
-undamaged_both a b v w one two =
-    let size_bits = length-append a b in
-    let size_values = length-append v w in
-    let size_one = one.size in
-    let size_two = two.size in
-    record {
-      size = omega arith;
-      signs = λ k h. elim (cases_lt k (length a)) [
-        | inl below ↦
-            let inside : k < length v = omega arith in
-            rw (get_or_append_left a b false k below, get_or_append_left v w (pos 0) k inside) (one.signs k below)
-        | inr above ↦
-            rw (get_or-append_right a b (length a) k false refl above, get_or-append_right v w (length a) k (pos 0) size_one above)
-            (two.signs (k - length a) (omega arith))
-      ];
-    }
 
 pub nothing_undamaged : IsUndamaged [] []
 nothing_undamaged = record { size = refl; signs = λ k h. absurd (omega arith) }

@@ -3,3 +3,4 @@ pub mod Messages
 pub mod Numbers
 pub mod Rests
 pub mod Shifts
+pub mod Sums

@@ -3,15 +3,12 @@ use mir.Val.{bool_byte}
 use Rattle.std.proofs.Common.{◌≡◌, ℕ, ◌+◌, ◌*◌, ◌^◌, ◌<◌, Bool, true, false, not, List, [], ◌∷◌, ◌++◌, length, take, lit<, arith, refl, ap, sym, ◌∙◌}
 use Rattle.std.proofs.Math.Bool.{beq}
 use Rattle.std.proofs.lemmas.List.{take_more}
-use Rattle.std.specs.Int.Bits.{bit_xor}
 use Rattle.tetra_bits.specs.Digits.{digit, digits}
 use Rattle.tetra_bits.specs.Numbered.{numbered, numbered_none, numbered_more}
 use Rattle.tetra_bits.specs.Order.{bit_at}
 use Rattle.tetra_bits.specs.Sums.{add2}
 use Rattle.tetra_bits.specs.lemmas.Digits.{digits-cat}
-use Rattle.tetra_parity.specs.Parity.{block_rest, generator4, generator7, generator16, parity_bits4, seven_bits, parity_bits8, parity_bits16, sum_of}
-use Rattle.tetra_parity.specs.Register.{held}
-use Rattle.tetra_parity.proofs.Held.{held_rest, held_ones, is_generator4, is_generator7}
+use Rattle.tetra_parity.specs.Parity.{block_rest, generator4, generator7, parity_bits4, seven_bits, parity_bits8, parity16, parity_bits16, sum_of}
 
 -- sums of bits
 pub unequal : (a b : Bool) → not (beq a b) ≡ add2 a b
@@ -75,15 +72,15 @@ pub none : digits 0 0 ≡ []
 unfolding digits
 none = numbered_none (digit 0 0)
 
-pub four : (block : List Bool) (rest : ℕ) → rest ≡ held 4 19 0 block → digits 4 rest ≡ parity_bits4 block
+pub four : (block : List Bool) (rest : ℕ) → rest ≡ block_rest 4 19 block → digits 4 rest ≡ parity_bits4 block
 unfolding parity_bits4 generator4
-four block rest e = ap (digits 4) (e ∙ held_rest 4 generator4 is_generator4 block)
+four block rest e = ap (digits 4) e
 
-pub eight : (block : List Bool) (rest byte : ℕ) (all seven : Bool) → rest ≡ held 7 137 0 block → all ≡ sum_of block → seven ≡ sum_of (digits 7 rest)
+pub eight : (block : List Bool) (rest byte : ℕ) (all seven : Bool) → rest ≡ block_rest 7 137 block → all ≡ sum_of block → seven ≡ sum_of (digits 7 rest)
     → byte ≡ bool_byte (not (beq all seven)) → digits 8 (2 * rest + byte) ≡ parity_bits8 block
 unfolding parity_bits8 seven_bits generator7
 eight block rest byte all seven er ea es eb =
-    let r : rest ≡ block_rest 7 generator7 block = er ∙ held_rest 7 generator7 is_generator7 block in
+    let r : rest ≡ block_rest 7 generator7 block = er in
     let sum : not (beq all seven) ≡ sum_of (block ++ digits 7 rest) = unequal all seven ∙ rw (ea, es) (sym (sum_of-append block (digits 7 rest))) in
     let turn : 2 * rest + byte ≡ rest * 2 ^ 1 + byte = omega arith in
     ap (digits 8) (turn ∙ ap (λ n. rest * 2 ^ 1 + n) eb)
@@ -91,6 +88,6 @@ eight block rest byte all seven er ea es eb =
     ∙ ap (λ l. digits 7 rest ++ l) (one_digit (not (beq all seven)) ∙ ap (λ b. b ∷ []) sum)
     ∙ ap (λ n. digits 7 n ++ sum_of (block ++ digits 7 n) ∷ []) r
 
-pub sixteen : (block : List Bool) (register : ℕ) → register ≡ held 16 69665 65535 block → digits 16 (bit_xor register 65535) ≡ parity_bits16 block
-unfolding parity_bits16 generator16
-sixteen block register e = ap (digits 16) (ap (λ n. bit_xor n 65535) e ∙ held_ones block)
+pub sixteen : (block : List Bool) (number wide : ℕ) → number ≡ parity16 block → wide ≡ number → digits 16 wide ≡ parity_bits16 block
+unfolding parity_bits16
+sixteen block number wide e ew = ap (digits 16) (ew ∙ e)

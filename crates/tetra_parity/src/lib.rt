@@ -5,7 +5,9 @@ mod kind;
 mod laws;
 mod message;
 mod number;
+mod powers;
 mod register;
+mod sixteen;
 
 pub use kind::Parity;
 pub use laws::{blocks_are_good, marks_are_right, parity_holds, tests_parity};

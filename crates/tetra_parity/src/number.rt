@@ -5,6 +5,7 @@ ghost use Rattle.tetra_parity.specs.Parity.{width, parity_bits, sum_of};
 
 use crate::kind::Parity;
 use crate::register::register_of;
+use crate::sixteen::sixteen_of;
 use tetra_bits::Bits;
 
 /// `X^4 + X + 1`.
@@ -13,22 +14,20 @@ const GENERATOR4: u32 = 0b1_0011;
 /// `X^7 + X^3 + 1`.
 const GENERATOR7: u32 = 0b1000_1001;
 
-/// `X^16 + X^12 + X^5 + 1`.
-const GENERATOR16: u32 = 0b1_0001_0000_0010_0001;
-
 /// The parity of the first `size` bits: the digits of a number, the most significant first.
 pub fn parity_of(parity: Parity, bits: &Bits, size: usize) -> u32
-    requires { size ≤ length bits.now }
+    requires room { size + width parity ≤ 432 }
+    requires there { size ≤ length bits.now }
     ensures { digits (width parity) result ≡ parity_bits parity (take size bits.now) }
 {
     match parity {
         Parity::Nothing => 0,
-        Parity::Four => register_of::<4, GENERATOR4>(bits, size, 0),
+        Parity::Four => register_of::<4, GENERATOR4>(bits, size),
         Parity::Eight => {
-            let seven = register_of::<7, GENERATOR7>(bits, size, 0);
+            let seven = register_of::<7, GENERATOR7>(bits, size);
             2 * seven + u32::from(sum_of(bits, size) != sum_of_seven(seven))
         }
-        Parity::Sixteen => register_of::<16, GENERATOR16>(bits, size, 0xFFFF) ^ 0xFFFF,
+        Parity::Sixteen => u32::from(sixteen_of(bits, size)),
     }
 }
 

@@ -1,23 +1,19 @@
 // A register of shifts.
 ghost use Rattle.std.specs.Prelude.{◌≡◌, ◌≤◌, ◌<◌, ◌^◌, length, take};
-ghost use Rattle.tetra_parity.specs.Register.{IsGenerator, held, shifted_by};
+ghost use Rattle.tetra_parity.specs.Parity.{block_rest};
+ghost use Rattle.tetra_parity.specs.Register.{IsGenerator, shifted_by};
 
 use tetra_bits::Bits;
 
-/// What a register of `DEGREE` bits holds behind the first `size` bits of a list, where it held `first` before them.
-/// Bit i of `GENERATOR` is the coefficient of `X^i`; its degree is `DEGREE`, at most 16.
-pub fn register_of<const DEGREE: usize, const GENERATOR: u32>(
-    bits: &Bits,
-    size: usize,
-    first: u32,
-) -> u32
+/// `X^DEGREE M(X)` modulo a generator, where `M(X)` is the sum of `b(k) X^(size - k)` over the first `size` bits: what
+/// a register holds behind them. Bit i of `GENERATOR` is the coefficient of `X^i`; its degree is `DEGREE`, at most 16.
+pub fn register_of<const DEGREE: usize, const GENERATOR: u32>(bits: &Bits, size: usize) -> u32
     requires generator { IsGenerator DEGREE GENERATOR }
     requires there { size ≤ length bits.now }
-    requires small { first < 2 ^ DEGREE }
-    ensures value { result ≡ held DEGREE GENERATOR first (take size bits.now) }
+    ensures value { result ≡ block_rest DEGREE GENERATOR (take size bits.now) }
     ensures small { result < 2 ^ DEGREE }
 {
-    let mut register = first;
+    let mut register = 0;
     for i in 0..size {
         register = shifted::<DEGREE, GENERATOR>(register, bits.get(i));
     }

@@ -1,15 +1,28 @@
 -- What a receiver answers by what it keeps.
-use Rattle.std.proofs.Common.{ℕ, ℤ, ◌≡◌, List, length, Bool, refl, ap, ◌∙◌}
-use Rattle.arrayvec.specs.ArrayVec.{ArrayVec}
+use Rattle.std.proofs.Common.{ℕ, ℤ, ◌≡◌, List, length, map, drop, Bool, All, arith, refl, sym, ap, ◌∙◌}
+use Rattle.std.proofs.lemmas.List.{length-map, take-append-le, take_all}
+use Rattle.std.proofs.lemmas.List.Elements.{All-map, All-weaker}
+use Rattle.std.proofs.lemmas.Simd.{map-map}
+use Rattle.arrayvec.specs.ArrayVec.{ArrayVec, with_items}
+use Rattle.tetra_bits.specs.Soft.{AllWithin}
+use Rattle.tetra_bursts.specs.Fields.{FieldsHaveSizes}
 use Rattle.tetra_scramble.specs.Key.{key_of}
-use Rattle.tetra_settings.specs.Slots.{byte_of}
+use Rattle.tetra_settings.specs.Readings.{IsField, IsWellFormed}
+use Rattle.tetra_settings.specs.Slots.{byte_of, mode_of}
+use Rattle.tetra_settings.specs.declared.types.Dir.{Dir}
 use Rattle.tetra_settings.specs.declared.types.Settings.{Settings}
 use Rattle.tetra_settings.specs.declared.slots.Letter.{Letter}
 use Rattle.tetra_settings.specs.declared.readings.Field.{Field}
 use Rattle.tetra_settings.specs.declared.readings.SlotReading.{SlotReading}
+use Rattle.tetra_session.specs.Fronts.{IsFrontField, IsFront, IsBounded}
+use Rattle.tetra_session.specs.Heard.{letter_heard, place_values, field_heard, field_of_place, fields_heard, slot_front, slot_reading}
+use Rattle.tetra_session.specs.Readers.{read_field, read_front}
+use Rattle.tetra_session.specs.Spots.{places_of, FitsSpot, ArePlaces}
 use Rattle.tetra_session.specs.declared.front.FrontField.{FrontField}
 use Rattle.tetra_session.specs.declared.front.Front.{Front}
-use Rattle.tetra_session.specs.Heard.{letter_heard, fields_heard, fields_read, slot_front, slot_reading}
+use Rattle.tetra_session.specs.declared.spots.Place.{Place}
+use Rattle.tetra_session.specs.lemmas.Fields.{field_formed, field_bounded}
+use Rattle.tetra_session.specs.lemmas.Values.{place_size, place_within}
 
 abbrev pub front_made : ℕ → ArrayVec FrontField → Front
 front_made byte fields = record { letter = byte; fields = fields }
@@ -17,8 +30,17 @@ front_made byte fields = record { letter = byte; fields = fields }
 abbrev pub reading_made : ℕ → ArrayVec Field → SlotReading
 reading_made byte fields = record { letter = byte; fields = fields }
 
-module _ (settings s : Settings) (history : List (List ℤ)) (soft : List ℤ) (turn byte : ℕ) (letter : Letter) (key : List Bool) (same : s ≡ settings) (turns : turn ≡ length history) (keyed : key ≡ key_of s.colour)
-    (lettered : letter ≡ letter_heard s turn soft) (bytes : byte ≡ byte_of letter) where
+-- a list of so many entries, written over as a whole
+pub written_over : {X Y : Type 0} (f : X → Y) (v : ArrayVec Y) (xs : List X) (ys : List Y) (n : ℕ) → ys ≡ map f xs → length v.items ≡ n → n ≡ length xs
+    → (with_items v ys).items ≡ map f xs
+written_over f v xs ys n e long same =
+    let size : length v.items ≡ length ys = omega (arith, ap length e, length-map xs f) in
+    take-append-le (length v.items) ys (drop (length ys) v.items) (omega arith) ∙ take_all (length v.items) ys (omega arith) ∙ e
+
+module _ (settings s : Settings) (history : List (List ℤ)) (soft : List ℤ) (turn byte : ℕ) (letter : Letter) (key : List Bool)
+    (places : List Place) (same : s ≡ settings) (turns : turn ≡ length history) (keyed : key ≡ key_of s.colour)
+    (lettered : letter ≡ letter_heard s turn soft) (bytes : byte ≡ byte_of letter)
+    (placed : places ≡ places_of s.dir letter (mode_of s turn)) where
   letter_is : letter ≡ letter_heard settings (length history) soft
   letter_is = lettered ∙ ap (λ z. letter_heard z turn soft) same ∙ ap (λ t. letter_heard settings t soft) turns
 
@@ -28,14 +50,73 @@ module _ (settings s : Settings) (history : List (List ℤ)) (soft : List ℤ) (
   key_is : key ≡ key_of settings.colour
   key_is = keyed ∙ ap (λ z. key_of z.colour) same
 
-  pub front_is : (fields : ArrayVec FrontField) → fields.items ≡ fields_heard letter key soft → front_made byte fields ≡ slot_front settings history soft
-  unfolding slot_front
+  places_are : places ≡ places_of settings.dir (letter_heard settings (length history) soft) (mode_of settings (length history))
+  places_are =
+      placed ∙ ap (λ l. places_of s.dir l (mode_of s turn)) letter_is
+      ∙ ap (λ z. places_of z.dir (letter_heard settings (length history) soft) (mode_of z turn)) same
+      ∙ ap (λ t. places_of settings.dir (letter_heard settings (length history) soft) (mode_of settings t)) turns
+
+  pub front_is : (fields : ArrayVec FrontField) → fields.items ≡ map (field_heard s.dir key soft) places → front_made byte fields ≡ slot_front settings history soft
+  unfolding slot_front fields_heard
   front_is fields e =
-      let items : fields.items ≡ fields_heard (letter_heard settings (length history) soft) (key_of settings.colour) soft = e ∙ ap (λ k. fields_heard letter k soft) key_is ∙ ap (λ l. fields_heard l (key_of settings.colour) soft) letter_is in
+      let items : fields.items ≡ map (field_heard settings.dir (key_of settings.colour) soft) (places_of settings.dir (letter_heard settings (length history) soft) (mode_of settings (length history))) =
+      e ∙ ap (λ p. map (field_heard s.dir key soft) p) places_are
+      ∙ ap (λ k. map (field_heard s.dir k soft) (places_of settings.dir (letter_heard settings (length history) soft) (mode_of settings (length history)))) key_is
+      ∙ ap (λ z. map (field_heard z.dir (key_of settings.colour) soft) (places_of settings.dir (letter_heard settings (length history) soft) (mode_of settings (length history)))) same in
       rw (byte_is, ← items) refl
 
-  pub reading_is : (fields : ArrayVec Field) → fields.items ≡ fields_read letter key soft → reading_made byte fields ≡ slot_reading settings history soft
-  unfolding slot_reading
+  pub reading_is : (fields : ArrayVec Field) → fields.items ≡ map (field_of_place s key soft) places → reading_made byte fields ≡ slot_reading settings history soft
+  unfolding slot_reading slot_front fields_heard read_front field_of_place
   reading_is fields e =
-      let items : fields.items ≡ fields_read (letter_heard settings (length history) soft) (key_of settings.colour) soft = e ∙ ap (λ k. fields_read letter k soft) key_is ∙ ap (λ l. fields_read l (key_of settings.colour) soft) letter_is in
+      let all : List Place = places_of settings.dir (letter_heard settings (length history) soft) (mode_of settings (length history)) in
+      let items : fields.items ≡ map (read_field settings.rows.0) (map (field_heard settings.dir (key_of settings.colour) soft) all) =
+      e ∙ ap (λ p. map (field_of_place s key soft) p) places_are
+      ∙ ap (λ k. map (field_of_place s k soft) all) key_is
+      ∙ ap (λ z. map (field_of_place z (key_of settings.colour) soft) all) same
+      ∙ sym (map-map (read_field settings.rows.0) (field_heard settings.dir (key_of settings.colour) soft) all) in
       rw (byte_is, ← items) refl
+
+-- the names of fields that are made of places
+module _ (law : FieldsHaveSizes) (dir : Dir) (key : List Bool) (soft : List ℤ) (size : length soft ≡ 510) where
+  heard_formed : (place : Place) → FitsSpot dir place → IsFrontField (field_heard dir key soft place)
+  unfolding field_heard
+  heard_formed place fit = record { soft = place_size law dir key soft place fit size }
+
+  heard_names : (places : List Place) → map (λ field. field.name) (map (field_heard dir key soft) places) ≡ map (λ place. place.name) places
+  unfolding field_heard
+  heard_names places = map-map (λ field. field.name) (field_heard dir key soft) places
+
+  pub front_formed : (letter : Letter) (byte : ℕ) (places : List Place) (fields : ArrayVec FrontField) → ArePlaces dir letter places
+      → byte ≡ byte_of letter → fields.items ≡ map (field_heard dir key soft) places → IsFront (front_made byte fields)
+  front_formed letter byte places fields are e f = record {
+    row = rw (e, f, heard_names places) are.row;
+    fields = rw f (All-map IsFrontField (field_heard dir key soft) places (All-weaker (FitsSpot dir) (λ place. IsFrontField (field_heard dir key soft place)) heard_formed places are.fit));
+  }
+
+module _ (law : FieldsHaveSizes) (settings : Settings) (key : List Bool) (soft : List ℤ) (size : length soft ≡ 510) where
+  read_formed : (place : Place) → FitsSpot settings.dir place → IsField (field_of_place settings key soft place)
+  unfolding field_of_place field_heard read_field
+  read_formed place fit =
+      field_formed place.name settings.rows.0 (place_values settings.dir key soft place) fit.built (place_size law settings.dir key soft place fit size)
+
+  read_bounded : (top : ℕ) → AllWithin top soft → (place : Place) → FitsSpot settings.dir place → IsBounded top (field_of_place settings key soft place)
+  unfolding field_of_place field_heard read_field
+  read_bounded top all place fit =
+      field_bounded top place.name settings.rows.0 (place_values settings.dir key soft place) fit.built (place_size law settings.dir key soft place fit size)
+      (place_within top settings.dir key soft place all)
+
+  read_names : (places : List Place) → map (λ field. field.name) (map (field_of_place settings key soft) places) ≡ map (λ place. place.name) places
+  unfolding field_of_place field_heard read_field
+  read_names places = map-map (λ field. field.name) (field_of_place settings key soft) places
+
+  pub reading_formed : (letter : Letter) (byte : ℕ) (places : List Place) (fields : ArrayVec Field) → ArePlaces settings.dir letter places
+      → byte ≡ byte_of letter → fields.items ≡ map (field_of_place settings key soft) places → IsWellFormed (reading_made byte fields)
+  reading_formed letter byte places fields are e f = record {
+    row = rw (e, f, read_names places) are.row;
+    fields = rw f (All-map IsField (field_of_place settings key soft) places (All-weaker (FitsSpot settings.dir) (λ place. IsField (field_of_place settings key soft place)) read_formed places are.fit));
+  }
+
+  pub reading_bounded : (letter : Letter) (places : List Place) (fields : List Field) → ArePlaces settings.dir letter places
+      → fields ≡ map (field_of_place settings key soft) places → (top : ℕ) → AllWithin top soft → All (IsBounded top) fields
+  reading_bounded letter places fields are f top all =
+      rw f (All-map (IsBounded top) (field_of_place settings key soft) places (All-weaker (FitsSpot settings.dir) (λ place. IsBounded top (field_of_place settings key soft place)) (read_bounded top all) places are.fit))

@@ -1,9 +1,5 @@
-pub mod Arriving
-pub mod BuiltLemmas
 pub mod Fitting
-pub mod OneField
+pub mod Sending
 pub mod Answering
 pub mod ApartLemmas
 pub mod SlotsArriving
-pub mod FieldLemmas
-pub mod Written

@@ -1,108 +1,339 @@
 -- What is read of undamaged slots.
-use Rattle.std.proofs.Common.{ℤ, ◌≡◌, ◌+◌, Bool, true, false, List, length, arith, refl, ap, sym, ◌∙◌}
+use Rattle.std.proofs.Common.{ℕ, ℤ, ◌≡◌, ◌+◌, ◌-◌, ◌*◌, ◌^◌, ◌<◌, Bool, true, false, List, [], ◌∷◌, ◌++◌, length, map, get_or, take, drop, cond, Option, Some, None, IfSome, arith, refl, ap, sym, subst, ◌∙◌}
+use Rattle.std.proofs.lemmas.List.{length-take-le, length-drop, take-append-drop}
+use Rattle.tetra_bits.specs.Digits.{digits}
+use Rattle.tetra_bits.specs.Numbered.{length-numbered}
 use Rattle.tetra_bits.specs.Undamaged.{IsUndamaged}
-use Rattle.tetra_channels.specs.Channels.{type3_bits, type4_bits, type5_bits, raw_bits}
-use Rattle.tetra_channels.specs.Fields.{coded_reading, raw_reading}
-use Rattle.tetra_channels.specs.Laws.{UndamagedIsRead, UndamagedRawIsRead, written_reading, written_raw}
-use Rattle.tetra_puncture.specs.Places.{two_thirds}
-use Rattle.tetra_scramble.proofs.Entries.{length-flipped}
-use Rattle.tetra_interleave.proofs.Places.{length-interleaved}
-use Rattle.tetra_scramble.specs.Key.{key_of}
-use Rattle.tetra_settings.specs.Slots.{byte_of}
+use Rattle.tetra_bits.specs.declared.reading.Mark.TheVariants.{Good, Unchecked}
+use Rattle.tetra_bits.specs.declared.reading.Reading.{Reading}
+use Rattle.tetra_bursts.specs.Arrives.{FieldsArrive, KindArrives, KeepsNormalDown, KeepsSyncDown, KeepsNormalUp, KeepsControlUp}
+use Rattle.tetra_bursts.specs.Bursts.{blocks_down, blocks_up, synchronisation}
+use Rattle.tetra_bursts.specs.Kind.{kind}
+use Rattle.tetra_bursts.specs.Fields.{first_half, second_half, sync_field, aach_field, aach_sync, sub_first, sub_second}
+use Rattle.tetra_bursts.specs.declared.table.Train.{Train}
+use Rattle.tetra_bursts.specs.declared.table.Train.TheVariants.{N, P as PTrain, Y}
+use Rattle.tetra_bursts.specs.lemmas.Joined.{undamaged_both}
+use Rattle.tetra_channels.specs.Channels.{Channel, bsch, hu, half, full, message_of, type4_bits, type5_bits, front_values, raw_bits, access_bits}
+use Rattle.tetra_channels.specs.Fields.{coded_reading, raw_reading, access_reading}
+use Rattle.tetra_channels.specs.Laws.{UndamagedIsRead, UndamagedRawIsRead, UndamagedAccessIsRead, written_reading, written_plain}
+use Rattle.tetra_interleave.specs.Placed.{placed}
+use Rattle.tetra_parity.specs.Marks.{good_mark}
+use Rattle.tetra_parity.specs.Parity.{width}
+use Rattle.tetra_rm.specs.Code.{access_word}
+use Rattle.tetra_rm.specs.lemmas.Words.{length-access_word}
+use Rattle.tetra_scramble.specs.Flips.{turned, flipped}
+use Rattle.tetra_scramble.specs.Key.{key_of, zero_key_bits}
+use Rattle.tetra_scramble.specs.lemmas.Entries.{length-flipped}
+use Rattle.tetra_settings.specs.Slots.{byte_of, use_of, mode_of}
 use Rattle.tetra_settings.specs.Blocks.{Fits, letter_of}
+use Rattle.tetra_settings.specs.declared.types.Dir.{Dir}
+use Rattle.tetra_settings.specs.declared.types.Dir.TheVariants.{Dl, Ul}
+use Rattle.tetra_settings.specs.declared.types.Mode.{Mode}
+use Rattle.tetra_settings.specs.declared.types.Mode.TheVariants.{D72}
 use Rattle.tetra_settings.specs.declared.types.Settings.{Settings}
 use Rattle.tetra_settings.specs.declared.slots.Letter.{Letter}
-use Rattle.tetra_settings.specs.declared.slots.Letter.TheVariants.{F, T}
+use Rattle.tetra_settings.specs.declared.slots.Letter.TheVariants.{F, H, S, T, C}
+use Rattle.tetra_settings.specs.declared.slots.SlotUse.{SlotUse}
+use Rattle.tetra_settings.specs.declared.slots.SlotUse.TheVariants.{Signalling, Control as ControlUse, Traffic as TrafficUse}
 use Rattle.tetra_settings.specs.declared.blocks.Body.{Body}
 use Rattle.tetra_settings.specs.declared.blocks.Body.TheVariants.{Full, Halves, Sync, Traffic, Stolen, Both, Control}
 use Rattle.tetra_settings.specs.declared.blocks.SlotBlocks.{SlotBlocks}
-use Rattle.tetra_settings.specs.declared.readings.FieldName.TheVariants.{Full as FullName, D72 as D72Name}
-use Rattle.tetra_session.specs.Built.{is_built}
-use Rattle.tetra_session.specs.Burst.{word_values, kind}
-use Rattle.tetra_session.specs.Sent.{slot_written, full_bits}
-use Rattle.tetra_session.specs.Heard.{letter_heard, full_values, raw_values, fields_read, slot_reading}
-use Rattle.tetra_session.specs.Undamaged.{KeepsSlot}
-use Rattle.tetra_session.specs.Arrives.{SlotRead, SlotsArrive}
-use Rattle.tetra_session.specs.declared.burst.Train.TheVariants.{N}
-use Rattle.tetra_session.proofs.Arriving.{burst_arrives}
-use Rattle.tetra_session.proofs.Fitting.{fits_full, fits_raw}
+use Rattle.tetra_settings.specs.declared.readings.Field.{Field}
+use Rattle.tetra_settings.specs.declared.readings.FieldName.{FieldName}
+use Rattle.tetra_settings.specs.declared.readings.FieldName.TheVariants.{Aach, Sync as SyncName, Half as HalfName, Hu as HuName, Full as FullName, D72 as D72Name}
+use Rattle.tetra_settings.specs.declared.readings.SlotReading.{SlotReading}
+use Rattle.tetra_session.specs.Built.{is_built, is_built_letter}
+use Rattle.tetra_session.specs.Readers.{read_field, read_front}
+use Rattle.tetra_session.specs.Spots.{place, places_of, access_spot, is_downlink}
+use Rattle.tetra_session.specs.Heard.{allowed_in, letter_by, letter_heard, field_heard, place_values, fields_heard, slot_front, slot_reading}
+use Rattle.tetra_session.specs.Sent.{KeepsSlot, KeepsSlotOf, access_of, burst_of, subslot_bits}
+use Rattle.tetra_session.specs.declared.spots.Spot.{Spot}
+use Rattle.tetra_session.specs.declared.spots.Spot.TheVariants.{Access, SyncAccess, Sync as SyncSpot, FirstBlock, SecondBlock, WholeSlot, FirstSubslot, SecondSubslot}
+use Rattle.tetra_session.specs.Arrives.{HasField, SubslotRead, BlocksRead, AccessRead, SlotRead, SlotsArrive}
+use Rattle.tetra_session.proofs.Fitting.{fits_full, fits_halves, fits_sync, fits_raw, fits_control, access_there, access_none}
 
-full_size : (key block : List Bool) → length (full_bits key block) ≡ 432
-unfolding type5_bits type4_bits
-full_size key block =
-    let p = two_thirds 288 432 in
-    length-flipped (type4_bits 16 151 p block) key 1 ∙ length-interleaved false 432 151 (type3_bits 16 p block)
+-- how many type-5 bits there are
+coded_size : (channel : Channel) (key block : List Bool) → length (type5_bits channel key block) ≡ channel.plan.sent
+unfolding type5_bits type4_bits placed
+coded_size channel key block = length-flipped _ key 1 ∙ length-numbered _ channel.plan.sent
 
 raw_size : (key block : List Bool) → length (raw_bits key block) ≡ length block
 unfolding raw_bits
 raw_size key block = length-flipped block key 1
 
-module _ (full_read : UndamagedIsRead 16 103 151 (two_thirds 288 432)) (raw_read : UndamagedRawIsRead) where
-  module _ (settings : Settings) (history : List SlotBlocks) (blocks : SlotBlocks) (earlier : List (List ℤ)) (received : List ℤ) (built : is_built settings ≡ true)
-      (fits : Fits settings (length history) blocks) (same : length earlier ≡ length history) (kept : KeepsSlot (slot_written settings history blocks) received) where
-    abbrev key_bits : List Bool
-    key_bits = key_of settings.colour
+access_size : (rows : List ℕ) (key : List Bool) (message : ℕ) → length (access_bits rows key message) ≡ 30
+unfolding access_bits digits
+access_size rows key message = length-flipped _ key 1 ∙ length-access_word rows (digits 14 message) ∙ ap (λ n. n + 16) (length-numbered _ 14)
 
-    heard : (letter : Letter) → letter_heard settings (length earlier) received ≡ letter
-        → (slot_reading settings earlier received).letter ≡ byte_of letter
-    unfolding slot_reading
-    heard letter e = ap byte_of e
+-- a field that is there, by what is read of it
+coded_field : (channel : Channel) → UndamagedIsRead channel → (key block : List Bool) (values : List ℤ) (reading : SlotReading) (i : ℕ) (name : FieldName) (field : Field)
+    → ((other : Field) → get_or reading.fields.items i other ≡ field) → field.name ≡ name → field.reading ≡ coded_reading channel (front_values channel key values)
+    → length block + width channel.parity + 4 ≡ channel.plan.steps → IsUndamaged (type5_bits channel key block) values
+    → HasField reading i name (good_mark channel.parity) (message_of channel block)
+unfolding written_reading
+coded_field channel read key block values reading i name field there named is size u =
+    let e = is ∙ read key block values size u in
+    record { field = field; there = there; name_is = named; mark_is = ap (λ r. r.mark) e; free = ap (λ r. r.metric) e; bits_are = ap (λ r. r.bits) e }
 
-    items : (letter : Letter) → letter_heard settings (length earlier) received ≡ letter
-        → (slot_reading settings earlier received).fields.items ≡ fields_read letter (key_of settings.colour) received
-    unfolding slot_reading
-    items letter e = ap (λ l. fields_read l (key_of settings.colour) received) e
+plain_field : (reading : SlotReading) (i : ℕ) (name : FieldName) (field : Field) (bits : List Bool)
+    → ((other : Field) → get_or reading.fields.items i other ≡ field) → field.name ≡ name → field.reading ≡ written_plain bits → HasField reading i name Unchecked bits
+unfolding written_plain
+plain_field reading i name field bits there named e =
+    record { field = field; there = there; name_is = named; mark_is = ap (λ r. r.mark) e; free = ap (λ r. r.metric) e; bits_are = ap (λ r. r.bits) e }
 
-    full : (block : List Bool) → blocks.body ≡ Full block → SlotRead blocks (slot_reading settings earlier received)
-    unfolding slot_written full_values letter_heard written_reading
-    full block e =
-        let fit = fits_full settings (length history) blocks block fits e in
-        let sent = rw e at kept in
-        let letter : letter_heard settings (length earlier) received ≡ F = rw (same, fit.carries) refl in
-        let size : length block + 16 + 4 ≡ 288 = omega (arith, fit.size) in
-        let word : IsUndamaged (full_bits key_bits block) (word_values received) = burst_arrives.word N (full_bits key_bits block) received (full_size key_bits block) sent in
-        let read = full_read key_bits block (word_values received) size word in
-        record {
-          letter = heard F letter ∙ sym (ap (λ b. byte_of (letter_of b)) e);
-          fields = rw e (record {
-            field = record { name = FullName; reading = coded_reading 16 (two_thirds 288 432) (full_values key_bits received) };
-            alone = items F letter;
-            name_is = refl;
-            mark_is = ap (λ r. r.mark) read;
-            free = ap (λ r. r.metric) read;
-            bits_are = ap (λ r. r.bits) read;
-          });
-        }
+-- the two blocks of a word
+module _ (word : List Bool) (size : length word ≡ 432) where
+  first_size : length (take 216 word) ≡ 216
+  first_size = length-take-le 216 word (omega arith)
 
-    raw : (load : List Bool) → blocks.body ≡ Traffic load → SlotRead blocks (slot_reading settings earlier received)
-    unfolding slot_written raw_values letter_heard written_raw
-    raw load e =
-        let fit = fits_raw settings (length history) blocks load built fits e in
-        let sent = rw (e, fit.mode) at kept in
-        let word : IsUndamaged (raw_bits key_bits load) (word_values received) = burst_arrives.word N (raw_bits key_bits load) received (raw_size key_bits load ∙ fit.size) sent in
-        let kinds : kind received ≡ N = burst_arrives.kind N (raw_bits key_bits load) received sent in
-        let letter : letter_heard settings (length earlier) received ≡ T = rw (same, fit.carries, kinds) refl in
-        let read = raw_read key_bits load (word_values received) word in
-        record {
-          letter = heard T letter ∙ sym (ap (λ b. byte_of (letter_of b)) e);
-          fields = rw e (record {
-            field = record { name = D72Name; reading = raw_reading (raw_values key_bits received) };
-            alone = items T letter;
-            name_is = refl;
-            mark_is = ap (λ r. r.mark) read;
-            free = ap (λ r. r.metric) read;
-            bits_are = ap (λ r. r.bits) read;
-          });
-        }
+  second_size : length (drop 216 word) ≡ 216
+  second_size = let d = length-drop 216 word in omega (arith, d)
 
-  pub slots_arrive : SlotsArrive
-  slots_arrive settings history blocks earlier received built fits letter same kept = go blocks.body refl
-    where
-      go : (body : Body) → blocks.body ≡ body → SlotRead blocks (slot_reading settings earlier received)
-      go (Full block) e = full settings history blocks earlier received built fits same kept block e
-      go (Traffic load) e = raw settings history blocks earlier received built fits same kept load e
-      go (Halves first second) e = absurd (let b = rw e at letter in cc)
-      go (Sync sync half) e = absurd (let b = rw e at letter in cc)
-      go (Stolen first load) e = absurd (let b = rw e at letter in cc)
-      go (Both first second load) e = absurd (let b = rw e at letter in cc)
-      go (Control first second) e = absurd (let b = rw e at letter in cc)
+  joined : (v w : List ℤ) → IsUndamaged (take 216 word) v → IsUndamaged (drop 216 word) w → IsUndamaged word (v ++ w)
+  joined v w a b = subst (λ bits. IsUndamaged bits (v ++ w)) (take-append-drop 216 word) (undamaged_both (take 216 word) (drop 216 word) v w a b)
+
+record Laws : Type 0 where
+  bsch_read : UndamagedIsRead bsch
+  hu_read : UndamagedIsRead hu
+  half_read : UndamagedIsRead half
+  full_read : UndamagedIsRead full
+  raw_read : UndamagedRawIsRead
+  access_read : UndamagedAccessIsRead
+  fields : FieldsArrive
+  kinds : KindArrives
+
+module _ (laws : Laws) (settings : Settings) (history : List SlotBlocks) (blocks : SlotBlocks) (earlier : List (List ℤ)) (received : List ℤ) (built : is_built settings ≡ true)
+    (fits : Fits settings (length history) blocks) (same : length earlier ≡ length history) (kept : KeepsSlot settings history blocks received) where
+  abbrev key : List Bool
+  key = key_of settings.colour
+
+  abbrev rows : List ℕ
+  rows = settings.rows.0
+
+  abbrev reading : SlotReading
+  reading = slot_reading settings earlier received
+
+  -- the field at a place, read
+  abbrev field_at : Dir → FieldName → Spot → Field
+  field_at dir name spot = read_field rows (field_heard dir key received (place name spot))
+
+  abbrev fields_of : Dir → Letter → List Field
+  fields_of dir letter = map (read_field rows) (map (field_heard dir key received) (places_of dir letter (mode_of settings (length earlier))))
+
+  items : (dir : Dir) (letter : Letter) → settings.dir ≡ dir → letter_heard settings (length earlier) received ≡ letter → reading.fields.items ≡ fields_of dir letter
+  unfolding slot_reading read_front slot_front fields_heard
+  items dir letter d e = ap (λ l. fields_of settings.dir l) e ∙ ap (λ way. fields_of way letter) d
+
+  lettered : (letter : Letter) → letter_heard settings (length earlier) received ≡ letter → reading.letter ≡ byte_of letter
+  unfolding slot_reading read_front slot_front
+  lettered letter e = ap byte_of e
+
+  heard_as : (dir : Dir) (slot : SlotUse) (train : Train) → settings.dir ≡ dir → use_of settings (length history) ≡ slot
+      → kind received (is_downlink dir) (allowed_in dir slot) ≡ train → letter_heard settings (length earlier) received ≡ letter_by slot train
+  unfolding letter_heard
+  heard_as dir slot train d u k = rw (same, u, d, k) refl
+
+  -- what the received slot keeps, by what was sent
+  kept_as : (dir : Dir) (aach : Option ℕ) (mode : Mode) (body : Body) → settings.dir ≡ dir → blocks.aach ≡ aach → mode_of settings (length history) ≡ mode → blocks.body ≡ body
+      → KeepsSlotOf dir (access_of rows key aach) (burst_of key mode body) received
+  unfolding KeepsSlot
+  kept_as dir aach mode body d a m e =
+      subst (λ way. KeepsSlotOf way (access_of rows key aach) (burst_of key mode body) received) d
+      (subst (λ field. KeepsSlotOf settings.dir (access_of rows key field) (burst_of key mode body) received) a
+      (subst (λ here. KeepsSlotOf settings.dir (access_of rows key blocks.aach) (burst_of key here body) received) m
+      (subst (λ sent. KeepsSlotOf settings.dir (access_of rows key blocks.aach) (burst_of key (mode_of settings (length history)) sent) received) e kept)))
+
+  -- the access field of a letter that has a normal burst
+  access_read : (letter : Letter) (message : ℕ) → access_spot letter ≡ Access → settings.dir ≡ Dl → letter_heard settings (length earlier) received ≡ letter → message < 16384
+      → IsUndamaged (access_bits rows key message) (aach_field received) → HasField reading 0 Aach Unchecked (digits 14 message)
+  unfolding read_field field_heard place_values
+  access_read letter message spot d e small u =
+      plain_field reading 0 Aach (field_at Dl Aach Access) (digits 14 message) (λ other. ap (λ xs. get_or xs 0 other) (items Dl letter d e) ∙ ap (field_at Dl Aach) spot) refl
+      (laws.access_read rows key message (aach_field received) small u)
+
+  sync_access_read : (message : ℕ) → settings.dir ≡ Dl → letter_heard settings (length earlier) received ≡ S → message < 16384
+      → IsUndamaged (access_bits rows key message) (aach_sync received) → HasField reading 0 Aach Unchecked (digits 14 message)
+  unfolding read_field field_heard place_values
+  sync_access_read message d e small u =
+      plain_field reading 0 Aach (field_at Dl Aach SyncAccess) (digits 14 message) (λ other. ap (λ xs. get_or xs 0 other) (items Dl S d e)) refl
+      (laws.access_read rows key message (aach_sync received) small u)
+
+  -- SCH/F
+  full_down : (block : List Bool) → blocks.body ≡ Full block → settings.dir ≡ Dl → SlotRead blocks reading
+  unfolding read_field field_heard place_values good_mark
+  full_down block e d =
+      let fit = fits_full settings (length history) blocks fits block e in
+      let there = access_there settings.dir blocks.aach fits.access d in
+      let sent = kept_as Dl (Some there.0) (mode_of settings (length history)) (Full block) d there.1 refl e in
+      let word : List Bool = type5_bits full key block in
+      let size : length word ≡ 432 = coded_size full key block in
+      let access : List Bool = access_bits rows key there.0 in
+      let parts = laws.fields.normal_down N (take 216 word) access (drop 216 word) received (first_size word size) (access_size rows key there.0) (second_size word size) sent in
+      let kinds = laws.kinds.kind (blocks_down (take 216 word) access (drop 216 word)) true N (allowed_in Dl Signalling) received sent refl (λ y. refl) in
+      let letter = heard_as Dl Signalling N d fit.0 kinds in
+      record {
+        letter = lettered F letter ∙ sym (ap (λ b. byte_of (letter_of b)) e);
+        fields = rw (e, there.1) (
+          access_read F there.0 refl d letter there.2 parts.access,
+          coded_field full laws.full_read key block (first_half true received ++ second_half true received) reading 1 FullName (field_at Dl FullName WholeSlot)
+          (λ other. ap (λ xs. get_or xs 1 other) (items Dl F d letter)) refl refl (omega (arith, fit.1)) (joined word size _ _ parts.block_1 parts.block_2),
+        );
+      }
+
+  full_up : (block : List Bool) → blocks.body ≡ Full block → settings.dir ≡ Ul → SlotRead blocks reading
+  unfolding read_field field_heard place_values good_mark
+  full_up block e d =
+      let fit = fits_full settings (length history) blocks fits block e in
+      let none = access_none settings.dir blocks.aach fits.access d in
+      let sent = kept_as Ul None (mode_of settings (length history)) (Full block) d none refl e in
+      let word : List Bool = type5_bits full key block in
+      let size : length word ≡ 432 = coded_size full key block in
+      let parts = laws.fields.normal_up N (take 216 word) (drop 216 word) received (first_size word size) (second_size word size) sent in
+      let kinds = laws.kinds.kind (blocks_up (take 216 word) (drop 216 word)) false N (allowed_in Ul Signalling) received sent refl (λ y. absurd cc) in
+      let letter = heard_as Ul Signalling N d fit.0 kinds in
+      record {
+        letter = lettered F letter ∙ sym (ap (λ b. byte_of (letter_of b)) e);
+        fields = rw (e, none)
+          (coded_field full laws.full_read key block (first_half false received ++ second_half false received) reading 0 FullName (field_at Ul FullName WholeSlot)
+          (λ other. ap (λ xs. get_or xs 0 other) (items Ul F d letter)) refl refl (omega (arith, fit.1)) (joined word size _ _ parts.block_1 parts.block_2));
+      }
+
+  -- two half slots
+  halves : (first second : List Bool) → blocks.body ≡ Halves first second → SlotRead blocks reading
+  unfolding read_field field_heard place_values good_mark
+  halves first second e =
+      let fit = fits_halves settings (length history) blocks fits first second e in
+      let d = fit.1 in
+      let there = access_there settings.dir blocks.aach fits.access d in
+      let sent = kept_as Dl (Some there.0) (mode_of settings (length history)) (Halves first second) d there.1 refl e in
+      let a : List Bool = type5_bits half key first in
+      let b : List Bool = type5_bits half key second in
+      let access : List Bool = access_bits rows key there.0 in
+      let parts = laws.fields.normal_down PTrain a access b received (coded_size half key first) (access_size rows key there.0) (coded_size half key second) sent in
+      let kinds = laws.kinds.kind (blocks_down a access b) true PTrain (allowed_in Dl Signalling) received sent refl (λ y. refl) in
+      let letter = heard_as Dl Signalling PTrain d fit.0 kinds in
+      record {
+        letter = lettered H letter ∙ sym (ap (λ b. byte_of (letter_of b)) e);
+        fields = rw (e, there.1) (
+          access_read H there.0 refl d letter there.2 parts.access,
+          (coded_field half laws.half_read key first (first_half true received) reading 1 HalfName (field_at Dl HalfName FirstBlock)
+          (λ other. ap (λ xs. get_or xs 1 other) (items Dl H d letter)) refl refl (omega (arith, fit.2)) parts.block_1,
+          coded_field half laws.half_read key second (second_half true received) reading 2 HalfName (field_at Dl HalfName SecondBlock)
+          (λ other. ap (λ xs. get_or xs 2 other) (items Dl H d letter)) refl refl (omega (arith, fit.3)) parts.block_2),
+        );
+      }
+
+  -- a synchronisation burst
+  synchronised : (sync second : List Bool) → blocks.body ≡ Sync sync second → SlotRead blocks reading
+  unfolding read_field field_heard place_values good_mark
+  synchronised sync second e =
+      let fit = fits_sync settings (length history) blocks fits sync second e in
+      let d = fit.1 in
+      let there = access_there settings.dir blocks.aach fits.access d in
+      let sent = kept_as Dl (Some there.0) (mode_of settings (length history)) (Sync sync second) d there.1 refl e in
+      let a : List Bool = type5_bits bsch zero_key_bits sync in
+      let b : List Bool = type5_bits half key second in
+      let access : List Bool = access_bits rows key there.0 in
+      let parts = laws.fields.sync_down a access b received (coded_size bsch zero_key_bits sync) (access_size rows key there.0) (coded_size half key second) sent in
+      let kinds = laws.kinds.kind (synchronisation a access b) true Y (allowed_in Dl Signalling) received sent refl (λ y. refl) in
+      let letter = heard_as Dl Signalling Y d fit.0 kinds in
+      record {
+        letter = lettered S letter ∙ sym (ap (λ b. byte_of (letter_of b)) e);
+        fields = rw (e, there.1) (
+          sync_access_read there.0 d letter there.2 parts.access,
+          (coded_field bsch laws.bsch_read zero_key_bits sync (sync_field received) reading 1 SyncName (field_at Dl SyncName SyncSpot)
+          (λ other. ap (λ xs. get_or xs 1 other) (items Dl S d letter)) refl refl (omega (arith, fit.2)) parts.synchronisation,
+          coded_field half laws.half_read key second (second_half true received) reading 2 HalfName (field_at Dl HalfName SecondBlock)
+          (λ other. ap (λ xs. get_or xs 2 other) (items Dl S d letter)) refl refl (omega (arith, fit.3)) parts.block_2),
+        );
+      }
+
+  -- unprotected data
+  raw_down : (load : List Bool) → blocks.body ≡ Traffic load → settings.dir ≡ Dl → SlotRead blocks reading
+  unfolding read_field field_heard place_values
+  raw_down load e d =
+      let fit = fits_raw settings (length history) blocks fits load built e in
+      let there = access_there settings.dir blocks.aach fits.access d in
+      let word : List Bool = raw_bits key load in
+      let size : length word ≡ 432 = raw_size key load ∙ fit.2 in
+      let access : List Bool = access_bits rows key there.0 in
+      let sent = kept_as Dl (Some there.0) D72 (Traffic load) d there.1 fit.1 e in
+      let parts = laws.fields.normal_down N (take 216 word) access (drop 216 word) received (first_size word size) (access_size rows key there.0) (second_size word size) sent in
+      let kinds = laws.kinds.kind (blocks_down (take 216 word) access (drop 216 word)) true N (allowed_in Dl TrafficUse) received sent refl (λ y. refl) in
+      let letter = heard_as Dl TrafficUse N d fit.0 kinds in
+      let mode : mode_of settings (length earlier) ≡ D72 = ap (mode_of settings) same ∙ fit.1 in
+      record {
+        letter = lettered T letter ∙ sym (ap (λ b. byte_of (letter_of b)) e);
+        fields = rw (e, there.1) (
+          access_read T there.0 refl d letter there.2 parts.access,
+          plain_field reading 1 D72Name (field_at Dl D72Name WholeSlot) load
+          (λ other. ap (λ xs. get_or xs 1 other) (items Dl T d letter) ∙ ap (λ m. get_or (map (read_field rows) (map (field_heard Dl key received) (places_of Dl T m))) 1 other) mode) refl
+          (laws.raw_read key load (first_half true received ++ second_half true received) (joined word size _ _ parts.block_1 parts.block_2)),
+        );
+      }
+
+  raw_up : (load : List Bool) → blocks.body ≡ Traffic load → settings.dir ≡ Ul → SlotRead blocks reading
+  unfolding read_field field_heard place_values
+  raw_up load e d =
+      let fit = fits_raw settings (length history) blocks fits load built e in
+      let none = access_none settings.dir blocks.aach fits.access d in
+      let word : List Bool = raw_bits key load in
+      let size : length word ≡ 432 = raw_size key load ∙ fit.2 in
+      let sent = kept_as Ul None D72 (Traffic load) d none fit.1 e in
+      let parts = laws.fields.normal_up N (take 216 word) (drop 216 word) received (first_size word size) (second_size word size) sent in
+      let kinds = laws.kinds.kind (blocks_up (take 216 word) (drop 216 word)) false N (allowed_in Ul TrafficUse) received sent refl (λ y. absurd cc) in
+      let letter = heard_as Ul TrafficUse N d fit.0 kinds in
+      let mode : mode_of settings (length earlier) ≡ D72 = ap (mode_of settings) same ∙ fit.1 in
+      record {
+        letter = lettered T letter ∙ sym (ap (λ b. byte_of (letter_of b)) e);
+        fields = rw (e, none)
+          (plain_field reading 0 D72Name (field_at Ul D72Name WholeSlot) load
+          (λ other. ap (λ xs. get_or xs 0 other) (items Ul T d letter) ∙ ap (λ m. get_or (map (read_field rows) (map (field_heard Ul key received) (places_of Ul T m))) 0 other) mode) refl
+          (laws.raw_read key load (first_half false received ++ second_half false received) (joined word size _ _ parts.block_1 parts.block_2)));
+      }
+
+  -- control bursts
+  module _ (d : settings.dir ≡ Ul) (letter : letter_heard settings (length earlier) received ≡ C) where
+    first_sub : (first second : Option (List Bool)) → IfSome first (λ bits. length bits ≡ 92) → KeepsControlUp (subslot_bits key first) (subslot_bits key second) received → SubslotRead first reading 0
+    unfolding read_field field_heard place_values good_mark
+    first_sub None second size sent = tt
+    first_sub (Some block) second size sent =
+        coded_field hu laws.hu_read key block (sub_first received) reading 0 HuName (field_at Ul HuName FirstSubslot)
+        (λ other. ap (λ xs. get_or xs 0 other) (items Ul C d letter)) refl refl (omega (arith, size))
+        (laws.fields.first_sub (type5_bits hu key block) (subslot_bits key second) received (coded_size hu key block) sent)
+
+    second_sub : (first second : Option (List Bool)) → IfSome second (λ bits. length bits ≡ 92) → KeepsControlUp (subslot_bits key first) (subslot_bits key second) received → SubslotRead second reading 1
+    unfolding read_field field_heard place_values good_mark
+    second_sub first None size sent = tt
+    second_sub first (Some block) size sent =
+        coded_field hu laws.hu_read key block (sub_second received) reading 1 HuName (field_at Ul HuName SecondSubslot)
+        (λ other. ap (λ xs. get_or xs 1 other) (items Ul C d letter)) refl refl (omega (arith, size))
+        (laws.fields.second_sub (subslot_bits key first) (type5_bits hu key block) received (coded_size hu key block) sent)
+
+  controlled : (first second : Option (List Bool)) → blocks.body ≡ Control first second → SlotRead blocks reading
+  controlled first second e =
+      let fit = fits_control settings (length history) blocks fits first second e in
+      let d = fit.1 in
+      let none = access_none settings.dir blocks.aach fits.access d in
+      let sent = kept_as Ul None (mode_of settings (length history)) (Control first second) d none refl e in
+      let letter = heard_as Ul ControlUse (kind received false (allowed_in Ul ControlUse)) d fit.0 refl in
+      record {
+        letter = lettered C letter ∙ sym (ap (λ b. byte_of (letter_of b)) e);
+        fields = rw (e, none) (first_sub d letter first second fit.2 sent, second_sub d letter first second fit.3 sent);
+      }
+
+  by_body : (body : Body) → blocks.body ≡ body → (dir : Dir) → settings.dir ≡ dir → (is_built_letter (byte_of (letter_of blocks.body)) ≡ true) → SlotRead blocks reading
+  by_body (Full block) e Dl d letter = full_down block e d
+  by_body (Full block) e Ul d letter = full_up block e d
+  by_body (Halves first second) e dir d letter = halves first second e
+  by_body (Sync sync second) e dir d letter = synchronised sync second e
+  by_body (Traffic load) e Dl d letter = raw_down load e d
+  by_body (Traffic load) e Ul d letter = raw_up load e d
+  by_body (Control first second) e dir d letter = controlled first second e
+  by_body (Stolen first load) e dir d letter = absurd (let b = rw e at letter in cc)
+  by_body (Both first second load) e dir d letter = absurd (let b = rw e at letter in cc)
+
+pub slots_arrive : UndamagedIsRead bsch → UndamagedIsRead hu → UndamagedIsRead half → UndamagedIsRead full → UndamagedRawIsRead → UndamagedAccessIsRead → FieldsArrive → KindArrives → SlotsArrive
+slots_arrive bsch_read hu_read half_read full_read raw_read access_read fields kinds settings history blocks earlier received built fits letter same kept =
+    by_body (record { bsch_read = bsch_read; hu_read = hu_read; half_read = half_read; full_read = full_read; raw_read = raw_read; access_read = access_read; fields = fields; kinds = kinds })
+    settings history blocks earlier received built fits same kept blocks.body refl settings.dir refl letter

@@ -16,8 +16,9 @@ use Rattle.tetra_settings.specs.declared.slots.SlotUse.{SlotUse}
 use Rattle.tetra_settings.specs.declared.slots.SlotUse.TheVariants.{Signalling, Control, Traffic}
 use Rattle.tetra_settings.specs.declared.readings.FieldName.{FieldName}
 use Rattle.tetra_settings.specs.declared.readings.FieldName.TheVariants.{Aach, Sync, Half, Hu, Full, D72, D48, D24, Whole, Single}
+use Rattle.tetra_settings.specs.declared.readings.Field.{Field}
 use Rattle.tetra_settings.specs.declared.readings.SlotReading.{SlotReading}
-use Rattle.tetra_session.specs.Readers.{reader, heard_by, read_front}
+use Rattle.tetra_session.specs.Readers.{reader, heard_by, read_field, read_front}
 use Rattle.tetra_session.specs.Spots.{is_downlink, places_of, spot_values}
 use Rattle.tetra_session.specs.Time.{timeslot_mode, depth}
 use Rattle.tetra_session.specs.declared.front.FrontField.{FrontField}
@@ -75,6 +76,10 @@ place_values dir key soft place =
 -- the field at a place, with its values
 unfoldable pub field_heard : Dir → List Bool → List ℤ → Place → FrontField
 field_heard dir key soft place = record { name = place.name; soft = Some (place_values dir key soft place) }
+
+-- the field at a place, read
+unfoldable pub field_of_place : Settings → List Bool → List ℤ → Place → Field
+field_of_place settings key soft place = read_field settings.rows.0 (field_heard settings.dir key soft place)
 
 -- the fields of a slot of this letter, with their values
 unfoldable pub fields_heard : Dir → Mode → Letter → List Bool → List ℤ → List FrontField

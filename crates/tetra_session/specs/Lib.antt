@@ -7,3 +7,4 @@ pub mod Heard
 pub mod Apart
 pub mod Arrives
 pub mod Fronts
+pub mod lemmas

@@ -16,10 +16,10 @@ use Rattle.tetra_session.specs.declared.front.Front.{Front}
 
 -- by the access code, bit by bit, by the code of a channel, or not yet: speech has no reader so far
 pub data Reader : Type 0 where
-  pub Access : Reader
-  pub Plain : Reader
-  pub Trellis : Channel → Reader
-  pub NotBuilt : Reader
+  Access : Reader
+  Plain : Reader
+  Trellis : Channel → Reader
+  NotBuilt : Reader
 
 abbrev pub reader : FieldName → Reader
 reader Aach = Access

@@ -22,9 +22,9 @@ use Rattle.tetra_session.specs.declared.sender.Sender.{Sender}
 -- the burst of a slot with the type-5 bits that it carries, but for the access field: a training sequence, block 1 and
 -- block 2; the BSCH and block 2; or two subslots, where each is sent
 pub data SlotBurst : Type 0 where
-  pub Normal : Train → List Bool → List Bool → SlotBurst
-  pub Synchronisation : List Bool → List Bool → SlotBurst
-  pub Subslots : Option (List Bool) → Option (List Bool) → SlotBurst
+  Normal : Train → List Bool → List Bool → SlotBurst
+  Synchronisation : List Bool → List Bool → SlotBurst
+  Subslots : Option (List Bool) → Option (List Bool) → SlotBurst
 
 -- a normal burst whose blocks are the halves of a word of 432 bits
 abbrev pub whole : Train → List Bool → SlotBurst

@@ -1,7 +1,8 @@
 -- Where the fields of a slot stand, and their values (EN 300 392-2 clause 9.4.4).
-use Rattle.std.specs.Prelude.{ℕ, Bool, true, false, List, [], ◌∷◌, ◌++◌, ℤ}
+use Rattle.std.specs.Prelude.{◌≡◌, ℕ, ◌≤◌, Bool, true, false, List, [], ◌∷◌, ◌++◌, length, map, All, ℤ}
 use Rattle.tetra_bursts.specs.Fields.{first_half, second_half, sync_field, aach_field, aach_sync, sub_first, sub_second}
-use Rattle.tetra_settings.specs.Readings.{traffic_name}
+use Rattle.tetra_settings.specs.Readings.{IsRow, sizes, traffic_name}
+use Rattle.tetra_settings.specs.Slots.{byte_of}
 use Rattle.tetra_settings.specs.declared.types.Dir.{Dir}
 use Rattle.tetra_settings.specs.declared.types.Dir.TheVariants.{Dl, Ul}
 use Rattle.tetra_settings.specs.declared.types.Mode.{Mode}
@@ -10,6 +11,7 @@ use Rattle.tetra_settings.specs.declared.slots.Letter.{Letter}
 use Rattle.tetra_settings.specs.declared.slots.Letter.TheVariants.{F, H, S, T, P, Q, C}
 use Rattle.tetra_settings.specs.declared.readings.FieldName.{FieldName}
 use Rattle.tetra_settings.specs.declared.readings.FieldName.TheVariants.{Aach, Sync, Half, Hu, Full, Whole as WholeSpeech, Single}
+use Rattle.tetra_session.specs.Built.{IsBuiltName}
 use Rattle.tetra_session.specs.declared.spots.Spot.{Spot}
 use Rattle.tetra_session.specs.declared.spots.Spot.TheVariants.{Access, SyncAccess, Sync as SyncSpot, FirstBlock, SecondBlock, WholeSlot, FirstSubslot, SecondSubslot}
 use Rattle.tetra_session.specs.declared.spots.Place.{Place}
@@ -80,9 +82,23 @@ spot_size SecondSubslot = 168
 
 -- a slot of the direction has the spot
 abbrev pub HasSpot : Dir → Spot → Type 0
-HasSpot Ul Access = ⊥
-HasSpot Ul SyncAccess = ⊥
-HasSpot Ul SyncSpot = ⊥
-HasSpot Dl FirstSubslot = ⊥
-HasSpot Dl SecondSubslot = ⊥
-HasSpot dir spot = Unit {0}
+HasSpot dir Access = is_downlink dir ≡ true
+HasSpot dir SyncAccess = is_downlink dir ≡ true
+HasSpot dir SyncSpot = is_downlink dir ≡ true
+HasSpot dir FirstBlock = Unit {0}
+HasSpot dir SecondBlock = Unit {0}
+HasSpot dir WholeSlot = Unit {0}
+HasSpot dir FirstSubslot = is_downlink dir ≡ false
+HasSpot dir SecondSubslot = is_downlink dir ≡ false
+
+-- the field of a place is built, and a slot of the direction has its spot, with as many values as the field has
+pub record FitsSpot (dir : Dir) (place : Place) : Type 0 where
+  pub built : IsBuiltName place.name
+  pub here : HasSpot dir place.spot
+  pub size : spot_size place.spot ≡ (sizes place.name).values
+
+-- places of a slot of a letter: the letter and the names are a row, and each place fits
+pub record ArePlaces (dir : Dir) (letter : Letter) (places : List Place) : Type 0 where
+  pub row : IsRow (byte_of letter) (map (λ place. place.name) places)
+  pub fit : All (FitsSpot dir) places
+  pub few : length places ≤ 4

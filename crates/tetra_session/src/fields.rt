@@ -1,14 +1,15 @@
 // The letter and the fields of a slot.
-ghost use Rattle.std.specs.Prelude.{◌≡◌, ◌≢◌, ◌*◌, ◌≤◌, ℕ, length};
+ghost use Rattle.std.specs.Prelude.{◌≡◌, ◌≤◌, length, map, All};
 ghost use Rattle.arrayvec.specs.ArrayVec.{array_vec_len};
-ghost use Rattle.tetra_bits.specs.Soft.{AllSoft, AllWithin};
+ghost use Rattle.tetra_bits.specs.Soft.{AllSoft};
+ghost use Rattle.tetra_scramble.specs.Key.{zero_key_bits};
 ghost use Rattle.tetra_settings.specs.Readings.{sizes};
 ghost use Rattle.tetra_session.specs.Built.{IsBuiltName};
-ghost use Rattle.tetra_session.specs.Fronts.{IsBounded};
-ghost use Rattle.tetra_session.specs.Heard.{allowed_in, letter_by, key_for, place_values, field_heard};
-ghost use Rattle.tetra_session.specs.Readers.{reader, heard_by, read_by};
-ghost use Rattle.tetra_session.specs.Spots.{HasSpot, FitsSpot};
+ghost use Rattle.tetra_session.specs.Heard.{allowed_in, letter_by, place_values, field_heard, field_of_place};
+ghost use Rattle.tetra_session.specs.Readers.{reader, read_by};
+ghost use Rattle.tetra_session.specs.Spots.{FitsSpot};
 
+use crate::front::FrontField;
 use crate::keys::Keys;
 use crate::spots::{Place, spot_into};
 use arrayvec::ArrayVec;
@@ -17,16 +18,37 @@ use tetra_bursts::{Allowed, Train};
 use tetra_channels::{Aach, Bsch, Full, Half, Hu, Raw72};
 use tetra_rm::Rows;
 use tetra_scramble::flip_soft_into;
-use tetra_settings::{Dir, FieldName, Letter, SlotUse};
+use tetra_settings::{Dir, Field, FieldName, Letter, Settings, SlotUse};
+
+/// Lists that are filled on the way of a slot, kept so that they serve again.
+#[derive(Drop)]
+pub struct Scratch {
+    /// The values at a spot, in the order of type-5 bits.
+    pub type5: Soft,
+    /// The values of a field, after its key.
+    pub values: Soft,
+}
 
 /// The training sequences that a slot may have. In control bursts none is asked for.
 pub fn allowed_in(dir: Dir, slot: SlotUse) -> Allowed
     ensures { result ≡ allowed_in dir slot }
 {
     match (dir, slot) {
-        (Dir::Dl, SlotUse::Signalling) => Allowed { n: true, p: true, y: true },
-        (Dir::Ul, SlotUse::Signalling) | (_, SlotUse::Control) => Allowed { n: true, p: false, y: false },
-        (_, SlotUse::Traffic) => Allowed { n: true, p: true, y: false },
+        (Dir::Dl, SlotUse::Signalling) => Allowed {
+            n: true,
+            p: true,
+            y: true,
+        },
+        (Dir::Ul, SlotUse::Signalling) | (Dir::Dl | Dir::Ul, SlotUse::Control) => Allowed {
+            n: true,
+            p: false,
+            y: false,
+        },
+        (Dir::Dl | Dir::Ul, SlotUse::Traffic) => Allowed {
+            n: true,
+            p: true,
+            y: false,
+        },
     }
 }
 
@@ -40,26 +62,35 @@ pub fn letter_by(slot: SlotUse, train: Train) -> Letter
         (SlotUse::Signalling, Train::Y) => Letter::S,
         (SlotUse::Traffic, Train::N | Train::Y) => Letter::T,
         (SlotUse::Traffic, Train::P) => Letter::P,
-        (SlotUse::Control, _) => Letter::C,
+        (SlotUse::Control, Train::N | Train::P | Train::Y) => Letter::C,
     }
 }
 
 /// The values of the field at a place, after its key, and in the order of type-3 bits where it has a code, written over
 /// those that are there. `type5` is filled on the way.
-pub fn hear(dir: Dir, place: Place, keys: &Keys, soft: &[i16; 510], type5: &mut Soft, values: &mut Soft)
+#[tactic(auto, unfolding(crate::specs::Heard::place_values))]
+pub fn hear(
+    dir: Dir,
+    place: Place,
+    keys: &Keys,
+    soft: &[i16; 510],
+    type5: &mut Soft,
+    values: &mut Soft,
+)
     requires soft { AllSoft soft.now }
+    requires none { keys.now.none ≡ zero_key_bits }
     requires place { FitsSpot dir place }
-    requires built { IsBuiltName place.name }
-    ensures values { values.new ≡ place_values dir keys.now.colour keys.now.none soft.now place }
+    ensures values { values.new ≡ place_values dir keys.now.colour soft.now place }
     ensures size { length values.new ≡ (sizes place.name).values }
 {
     spot_into(dir, place.spot, soft, type5);
     match place.name {
-        FieldName::Aach | FieldName::D72 => flip_soft_into(type5, &keys.colour, 1, values),
+        FieldName::Aach => flip_soft_into(type5, &keys.colour, 1, values),
         FieldName::Sync => Bsch::front_into(type5, &keys.none, values),
         FieldName::Half => Half::front_into(type5, &keys.colour, values),
         FieldName::Hu => Hu::front_into(type5, &keys.colour, values),
         FieldName::Full => Full::front_into(type5, &keys.colour, values),
+        FieldName::D72 => flip_soft_into(type5, &keys.colour, 1, values),
         FieldName::D48 | FieldName::D24 | FieldName::Whole | FieldName::Single => unreachable!(),
     }
 }
@@ -68,8 +99,7 @@ pub fn hear(dir: Dir, place: Place, keys: &Keys, soft: &[i16; 510], type5: &mut 
 pub fn read(name: FieldName, rows: &Rows, soft: &Soft, reading: &mut Reading)
     requires size { length soft.now ≡ (sizes name).values }
     requires built { IsBuiltName name }
-    ensures reading { reading.new ≡ read_by (reader name) rows.now.0 soft.now }
-    ensures bounded { (top : ℕ) → AllWithin top soft.now → IsBounded top (record { name = name; reading = reading.new }) }
+    ensures { reading.new ≡ read_by (reader name) rows.now.0 soft.now }
 {
     match name {
         FieldName::Aach => Aach::decode2_into(rows, soft, reading),
@@ -79,6 +109,98 @@ pub fn read(name: FieldName, rows: &Rows, soft: &Soft, reading: &mut Reading)
         FieldName::Full => Full::decode3_into(soft, reading),
         FieldName::D72 => Raw72::decode1_into(soft, reading),
         FieldName::D48 | FieldName::D24 | FieldName::Whole | FieldName::Single => unreachable!(),
+    }
+}
+
+/// The field at a place with its values, written over a field that is there.
+#[tactic(auto, unfolding(crate::specs::Heard::field_heard))]
+fn hear_field(
+    dir: Dir,
+    place: Place,
+    keys: &Keys,
+    soft: &[i16; 510],
+    type5: &mut Soft,
+    field: &mut FrontField,
+)
+    requires soft { AllSoft soft.now }
+    requires none { keys.now.none ≡ zero_key_bits }
+    requires place { FitsSpot dir place }
+    ensures { field.new ≡ field_heard dir keys.now.colour soft.now place }
+{
+    field.name = place.name;
+    let values = field.soft.get_or_insert_with(Soft::new);
+    hear(dir, place, keys, soft, type5, values);
+}
+
+/// The fields at these places with their values, written over as many fields that are there.
+pub fn hear_fields(
+    dir: Dir,
+    places: &[Place],
+    keys: &Keys,
+    soft: &[i16; 510],
+    type5: &mut Soft,
+    fields: &mut [FrontField],
+)
+    requires soft { AllSoft soft.now }
+    requires none { keys.now.none ≡ zero_key_bits }
+    requires fit { All (FitsSpot dir) places.now }
+    requires as_many { length fields.old ≡ length places.now }
+    ensures { fields.new ≡ map (field_heard dir keys.now.colour soft.now) places.now }
+{
+    for i in 0..places.len() {
+        hear_field(dir, places[i], keys, soft, type5, &mut fields[i]);
+    }
+}
+
+/// The field at a place with what is read of it, written over a field that is there.
+#[tactic(auto, unfolding(crate::specs::Heard::field_of_place))]
+fn read_field(
+    settings: &Settings,
+    place: Place,
+    keys: &Keys,
+    soft: &[i16; 510],
+    scratch: &mut Scratch,
+    field: &mut Field,
+)
+    requires soft { AllSoft soft.now }
+    requires none { keys.now.none ≡ zero_key_bits }
+    requires place { FitsSpot settings.now.dir place }
+    ensures { field.new ≡ field_of_place settings.now keys.now.colour soft.now place }
+{
+    hear(
+        settings.dir,
+        place,
+        keys,
+        soft,
+        &mut scratch.type5,
+        &mut scratch.values,
+    );
+    field.name = place.name;
+    read(
+        place.name,
+        &settings.rows,
+        &scratch.values,
+        &mut field.reading,
+    );
+}
+
+/// The fields at these places with what is read of them, written over as many fields that are there.
+pub fn read_fields(
+    settings: &Settings,
+    places: &[Place],
+    keys: &Keys,
+    soft: &[i16; 510],
+    scratch: &mut Scratch,
+    fields: &mut [Field],
+)
+    requires soft { AllSoft soft.now }
+    requires none { keys.now.none ≡ zero_key_bits }
+    requires fit { All (FitsSpot settings.now.dir) places.now }
+    requires as_many { length fields.old ≡ length places.now }
+    ensures { fields.new ≡ map (field_of_place settings.now keys.now.colour soft.now) places.now }
+{
+    for i in 0..places.len() {
+        read_field(settings, places[i], keys, soft, scratch, &mut fields[i]);
     }
 }
 

@@ -4,15 +4,16 @@ ghost use Rattle.tetra_bits.specs.Soft.{AllSoft, AllWithin};
 ghost use Rattle.tetra_scramble.specs.Key.{key_of, zero_key_bits};
 ghost use Rattle.tetra_settings.specs.Validity.{IsValid};
 ghost use Rattle.tetra_session.specs.Built.{is_built};
+ghost use Rattle.tetra_session.specs.lemmas.Valid.{IsValid-prop};
 
-use crate::fields::{allowed_in, hear, keep_fields, letter_by, read};
-use crate::front::{Front, FrontField};
+use crate::fields::{Scratch, allowed_in, hear_fields, keep_fields, letter_by, read_fields};
+use crate::front::Front;
 use crate::keys::Keys;
-use crate::spots::{Place, places};
+use crate::spots::{Place, is_downlink, places};
 use arrayvec::ArrayVec;
 use tetra_bits::Soft;
-use tetra_bursts::kind;
-use tetra_settings::{Dir, Field, Letter, Settings, SlotReading, mode_at, slot_use};
+use tetra_bursts::{field_sizes, kind};
+use tetra_settings::{Letter, Settings, SlotReading, mode_at, slot_use};
 
 /// A receiver of slots, four timeslots side by side. It stands for its settings and for the slots that it was given so
 /// far. This project's own.
@@ -22,10 +23,8 @@ pub struct Receiver {
     keys: Keys,
     /// The number of slots so far, so that of the slot whose turn it is.
     turn: u32,
-    /// Lists that are filled on the way of a slot, kept so that they serve again.
-    type5: Soft,
-    values: Soft,
-    ghost valid: { IsValid settings },
+    scratch: Scratch,
+    ghost valid: { IsValid settings } by { IsValid-prop settings },
     ghost built: { IsTrue (is_built settings) },
     ghost keyed: { keys.colour ≡ key_of settings.colour },
     ghost none_keyed: { keys.none ≡ zero_key_bits },
@@ -35,6 +34,8 @@ impl Receiver {
     ghost use Rattle.tetra_session.specs.Built.{IsBuilt, IsBuiltLetter};
     ghost use Rattle.tetra_settings.specs.Readings.{IsWellFormed};
     ghost use Rattle.tetra_session.specs.Fronts.{IsFront, IsBounded};
+    ghost use Rattle.tetra_settings.specs.Slots.{mode_of};
+    ghost use Rattle.tetra_session.specs.Spots.{ArePlaces, places_of};
     ghost use Rattle.tetra_session.specs.Heard.{ReceiverStands, letter_heard, slot_letter, slot_front, slot_reading};
 
     /// A receiver before its first slot. The settings are valid, and built ones.
@@ -47,8 +48,10 @@ impl Receiver {
             settings: *settings,
             keys: Keys::new(&settings.colour),
             turn: 0,
-            type5: Soft::new(),
-            values: Soft::new(),
+            scratch: Scratch {
+                type5: Soft::new(),
+                values: Soft::new(),
+            },
         }
     }
 
@@ -61,19 +64,31 @@ impl Receiver {
         self.letter_heard(soft).byte()
     }
 
+    #[tactic(auto, unfolding(crate::specs::Heard::letter_heard))]
     fn letter_heard(&self, soft: &[i16; 510]) -> Letter
         requires { AllSoft soft.now }
         ensures { result ≡ letter_heard self.now.settings self.now.turn soft.now }
     {
         let slot = slot_use(&self.settings, self.turn);
-        let dl = self.settings.dir == Dir::Dl;
-        letter_by(slot, kind(soft, dl, allowed_in(self.settings.dir, slot)))
+        let dir = self.settings.dir;
+        letter_by(slot, kind(soft, is_downlink(dir), allowed_in(dir, slot)))
     }
 
-    /// The places of the fields of the slot whose turn it is, and its letter.
-    fn heard(&self, soft: &[i16; 510]) -> (Letter, ArrayVec<Place, 4>) {
+    /// The letter of the slot whose turn it is, and the places of its fields.
+    fn heard(&self, soft: &[i16; 510]) -> (Letter, ArrayVec<Place, 4>)
+        requires soft { AllSoft soft.now }
+        requires built { IsBuiltLetter (slot_letter self.now.settings self.now.turn soft.now) }
+        ensures letter { result.0 ≡ letter_heard self.now.settings self.now.turn soft.now }
+        ensures places { result.1.items ≡ places_of self.now.settings.dir result.0
+            (mode_of self.now.settings self.now.turn) }
+        ensures fit { ArePlaces self.now.settings.dir result.0 result.1.items }
+    {
         let letter = self.letter_heard(soft);
-        let places = places(self.settings.dir, letter, mode_at(&self.settings, self.turn));
+        let places = places(
+            self.settings.dir,
+            letter,
+            mode_at(&self.settings, self.turn),
+        );
         (letter, places)
     }
 
@@ -113,16 +128,15 @@ impl Receiver {
         self.turn += 1;
         front.letter = letter.byte();
         keep_fields(&mut front.fields, places.len());
-        for i in 0..places.len() {
-            self.hear_field(places[i], soft, &mut front.fields[i]);
-        }
-    }
-
-    /// The field at a place with its values.
-    fn hear_field(&mut self, place: Place, soft: &[i16; 510], field: &mut FrontField) {
-        field.name = place.name;
-        let values = field.soft.get_or_insert_with(Soft::new);
-        hear(self.settings.dir, place, &self.keys, soft, &mut self.type5, values);
+        hear_fields(
+            self.settings.dir,
+            &places,
+            &self.keys,
+            soft,
+            &mut self.scratch.type5,
+            &mut front.fields,
+        );
+        field_sizes();
     }
 
     /// The reading of the slot whose turn it is, from the values of its 510 positions, each from -`SOFT_MAX` to
@@ -163,15 +177,14 @@ impl Receiver {
         self.turn += 1;
         reading.letter = letter.byte();
         keep_fields(&mut reading.fields, places.len());
-        for i in 0..places.len() {
-            self.read_field(places[i], soft, &mut reading.fields[i]);
-        }
-    }
-
-    /// What is read of the field at a place.
-    fn read_field(&mut self, place: Place, soft: &[i16; 510], field: &mut Field) {
-        hear(self.settings.dir, place, &self.keys, soft, &mut self.type5, &mut self.values);
-        field.name = place.name;
-        read(place.name, &self.settings.rows, &self.values, &mut field.reading);
+        read_fields(
+            &self.settings,
+            &places,
+            &self.keys,
+            soft,
+            &mut self.scratch,
+            &mut reading.fields,
+        );
+        field_sizes();
     }
 }

@@ -1,11 +1,7 @@
 // Sending, slot by slot.
-ghost use Rattle.std.specs.Prelude.{◌≡◌, ◌<◌, ◌++◌, ◌∷◌, [], List, Bool, ℕ, IsTrue, map, length};
-ghost use Rattle.std.specs.Option.{option_map_or};
+ghost use Rattle.std.specs.Prelude.{◌≡◌, ◌≢◌, ◌<◌, ◌++◌, ◌∷◌, [], List, IsTrue, IfSome, length};
 ghost use Rattle.tetra_scramble.specs.Key.{key_of, zero_key_bits};
-ghost use Rattle.tetra_settings.specs.Validity.{IsValid};
 ghost use Rattle.tetra_session.specs.Built.{is_built};
-ghost use Rattle.tetra_bursts.specs.Bursts.{control_up_slot};
-ghost use Rattle.tetra_session.specs.Sent.{slot_of, access_of, subslot_bits, whole, Normal};
 
 use crate::keys::Keys;
 use crate::words::{first_half, second_half};
@@ -22,13 +18,16 @@ pub struct Sender {
     keys: Keys,
     /// The number of slots so far, so that of the slot whose turn it is.
     turn: u32,
-    ghost valid: { IsValid settings },
     ghost built: { IsTrue (is_built settings) },
     ghost keyed: { keys.colour ≡ key_of settings.colour },
     ghost none_keyed: { keys.none ≡ zero_key_bits },
 }
 
 impl Sender {
+    ghost use Rattle.std.specs.Option.{option_map};
+    ghost use Rattle.tetra_bursts.specs.Bursts.{control_up_slot};
+    ghost use Rattle.tetra_session.specs.Sent.{slot_of, access_of, subslot_bits, whole, Normal};
+    ghost use Rattle.tetra_settings.specs.Validity.{IsValid};
     ghost use Rattle.tetra_settings.specs.Slots.{byte_of};
     ghost use Rattle.tetra_settings.specs.Blocks.{Fits, letter_of};
     ghost use Rattle.tetra_settings.specs.declared.blocks.SlotBlocks.{SlotBlocks};

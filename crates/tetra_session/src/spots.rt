@@ -1,14 +1,14 @@
 // Where the fields of a slot stand.
-ghost use Rattle.std.specs.Prelude.{◌≡◌, ◌++◌, length};
+ghost use Rattle.std.specs.Prelude.{◌≡◌, ◌≤◌, ◌++◌, length};
 ghost use Rattle.tetra_bits.specs.Soft.{AllSoft};
 ghost use Rattle.tetra_bursts.specs.Fields.{first_half, second_half};
-ghost use Rattle.tetra_session.specs.Spots.{access_spot, body_places, places_of, spot_values, spot_size, HasSpot};
+ghost use Rattle.tetra_session.specs.Spots.{access_spot, body_places, is_downlink, places_of, spot_values, spot_size, HasSpot};
 
 use arrayvec::ArrayVec;
 use tetra_bits::Soft;
 use tetra_bursts::{
-    aach_field_into, aach_sync_into, first_half_into, second_half, second_half_into, sub_first_into,
-    sub_second_into, sync_field_into,
+    aach_field_into, aach_sync_into, first_half_into, second_half, second_half_into,
+    sub_first_into, sub_second_into, sync_field_into,
 };
 use tetra_settings::{Dir, FieldName, Letter, Mode};
 
@@ -40,7 +40,6 @@ pub struct Place {
     pub spot: Spot,
 }
 
-
 impl Default for Place {
     ghost is_default = { λ _. Unit {0} };
 
@@ -55,64 +54,136 @@ impl Default for Place {
 
 /// The places of the fields of a letter, behind the access field. A slot is never read as `Q`.
 fn body_places(letter: Letter, mode: Mode) -> &'static [Place]
-    ensures { result.now ≡ body_places letter mode }
+    ensures places { result.now ≡ body_places letter mode }
+    ensures few { length result.now ≤ 3 }
 {
     match letter {
-        Letter::F => &[Place { name: FieldName::Full, spot: Spot::WholeSlot }],
+        Letter::F => &[Place {
+            name: FieldName::Full,
+            spot: Spot::WholeSlot,
+        }],
         Letter::H => &[
-            Place { name: FieldName::Half, spot: Spot::FirstBlock },
-            Place { name: FieldName::Half, spot: Spot::SecondBlock },
+            Place {
+                name: FieldName::Half,
+                spot: Spot::FirstBlock,
+            },
+            Place {
+                name: FieldName::Half,
+                spot: Spot::SecondBlock,
+            },
         ],
         Letter::S => &[
-            Place { name: FieldName::Sync, spot: Spot::Sync },
-            Place { name: FieldName::Half, spot: Spot::SecondBlock },
+            Place {
+                name: FieldName::Sync,
+                spot: Spot::Sync,
+            },
+            Place {
+                name: FieldName::Half,
+                spot: Spot::SecondBlock,
+            },
         ],
         Letter::T => traffic_places(mode),
         Letter::P => stolen_places(mode),
         Letter::Q => &[],
         Letter::C => &[
-            Place { name: FieldName::Hu, spot: Spot::FirstSubslot },
-            Place { name: FieldName::Hu, spot: Spot::SecondSubslot },
+            Place {
+                name: FieldName::Hu,
+                spot: Spot::FirstSubslot,
+            },
+            Place {
+                name: FieldName::Hu,
+                spot: Spot::SecondSubslot,
+            },
         ],
     }
 }
 
 /// The place of the load of a whole traffic slot.
 fn traffic_places(mode: Mode) -> &'static [Place]
-    ensures { result.now ≡ body_places Letter.T mode }
+    ensures places { result.now ≡ body_places Letter.T mode }
+    ensures few { length result.now ≤ 3 }
 {
     match mode {
-        Mode::D72 => &[Place { name: FieldName::D72, spot: Spot::WholeSlot }],
-        Mode::D48(_) => &[Place { name: FieldName::D48, spot: Spot::WholeSlot }],
-        Mode::D24(_) => &[Place { name: FieldName::D24, spot: Spot::WholeSlot }],
-        Mode::Speech | Mode::Sig | Mode::Cb => &[Place { name: FieldName::Whole, spot: Spot::WholeSlot }],
+        Mode::D72 => &[Place {
+            name: FieldName::D72,
+            spot: Spot::WholeSlot,
+        }],
+        Mode::D48(_) => &[Place {
+            name: FieldName::D48,
+            spot: Spot::WholeSlot,
+        }],
+        Mode::D24(_) => &[Place {
+            name: FieldName::D24,
+            spot: Spot::WholeSlot,
+        }],
+        Mode::Speech | Mode::Sig | Mode::Cb => &[Place {
+            name: FieldName::Whole,
+            spot: Spot::WholeSlot,
+        }],
     }
 }
 
 /// The places of the fields of a slot whose first half is stolen. Its load is speech in the second half, or data.
 fn stolen_places(mode: Mode) -> &'static [Place]
-    ensures { result.now ≡ body_places Letter.P mode }
+    ensures places { result.now ≡ body_places Letter.P mode }
+    ensures few { length result.now ≤ 3 }
 {
     match mode {
         Mode::D72 => &[
-            Place { name: FieldName::Half, spot: Spot::FirstBlock },
-            Place { name: FieldName::Half, spot: Spot::SecondBlock },
-            Place { name: FieldName::D72, spot: Spot::WholeSlot },
+            Place {
+                name: FieldName::Half,
+                spot: Spot::FirstBlock,
+            },
+            Place {
+                name: FieldName::Half,
+                spot: Spot::SecondBlock,
+            },
+            Place {
+                name: FieldName::D72,
+                spot: Spot::WholeSlot,
+            },
         ],
         Mode::D48(_) => &[
-            Place { name: FieldName::Half, spot: Spot::FirstBlock },
-            Place { name: FieldName::Half, spot: Spot::SecondBlock },
-            Place { name: FieldName::D48, spot: Spot::WholeSlot },
+            Place {
+                name: FieldName::Half,
+                spot: Spot::FirstBlock,
+            },
+            Place {
+                name: FieldName::Half,
+                spot: Spot::SecondBlock,
+            },
+            Place {
+                name: FieldName::D48,
+                spot: Spot::WholeSlot,
+            },
         ],
         Mode::D24(_) => &[
-            Place { name: FieldName::Half, spot: Spot::FirstBlock },
-            Place { name: FieldName::Half, spot: Spot::SecondBlock },
-            Place { name: FieldName::D24, spot: Spot::WholeSlot },
+            Place {
+                name: FieldName::Half,
+                spot: Spot::FirstBlock,
+            },
+            Place {
+                name: FieldName::Half,
+                spot: Spot::SecondBlock,
+            },
+            Place {
+                name: FieldName::D24,
+                spot: Spot::WholeSlot,
+            },
         ],
         Mode::Speech | Mode::Sig | Mode::Cb => &[
-            Place { name: FieldName::Half, spot: Spot::FirstBlock },
-            Place { name: FieldName::Half, spot: Spot::SecondBlock },
-            Place { name: FieldName::Single, spot: Spot::SecondBlock },
+            Place {
+                name: FieldName::Half,
+                spot: Spot::FirstBlock,
+            },
+            Place {
+                name: FieldName::Half,
+                spot: Spot::SecondBlock,
+            },
+            Place {
+                name: FieldName::Single,
+                spot: Spot::SecondBlock,
+            },
         ],
     }
 }
@@ -138,8 +209,20 @@ pub fn places(dir: Dir, letter: Letter, mode: Mode) -> ArrayVec<Place, 4>
             spot: access_spot(letter),
         });
     }
-    places.try_extend_from_slice(body_places(letter, mode)).unwrap();
     places
+        .try_extend_from_slice(body_places(letter, mode))
+        .unwrap();
+    places
+}
+
+/// Whether the direction is the downlink.
+pub fn is_downlink(dir: Dir) -> bool
+    ensures { result ≡ is_downlink dir }
+{
+    match dir {
+        Dir::Dl => true,
+        Dir::Ul => false,
+    }
 }
 
 /// Writes the values at a spot over a list that is there, in the order of type-5 bits.
@@ -149,7 +232,7 @@ pub fn spot_into(dir: Dir, spot: Spot, soft: &[i16; 510], values: &mut Soft)
     ensures values { values.new ≡ spot_values dir spot soft.now }
     ensures size { length values.new ≡ spot_size spot }
 {
-    let dl = dir == Dir::Dl;
+    let dl = is_downlink(dir);
     match spot {
         Spot::Access => aach_field_into(soft, dl, values),
         Spot::SyncAccess => aach_sync_into(soft, values),

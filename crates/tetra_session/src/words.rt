@@ -23,8 +23,8 @@ pub fn second_half(word: &Bits) -> Bits
     ensures size { length result ≡ 216 }
 {
     let mut half = Bits::new();
-    for i in 216..432usize {
-        half.push(word.get(i));
+    for i in 0..216usize {
+        half.push(word.get(216 + i));
     }
     half
 }

@@ -18,5 +18,4 @@ returns-in-Eight c =
 
 pub returns-in-Sixteen : goal.returns-in-Sixteen
 unfolding parity_bits
-returns-in-Sixteen c =
-    rw c.in-Sixteen.is (sixteen (take c.args.size c.args.bits.now) c.register_of-in-Sixteen.result c.register_of-in-Sixteen.ensures.value)
+returns-in-Sixteen c = rw c.in-Sixteen.is (sixteen (take c.args.size c.args.bits.now) c.sixteen_of.result c.from-in-Sixteen.result c.sixteen_of.ensures c.from-in-Sixteen.ensures)

@@ -1,10 +1,6 @@
-use Rattle.std.proofs.Common.{◌≡◌, ◌<◌, ◌^◌, take}
-use Rattle.tetra_parity.specs.Register.{held}
+use Rattle.std.proofs.Common.{◌≡◌, take}
+use Rattle.tetra_parity.specs.Parity.{block_rest}
 use Rattle.tetra_parity.proofs.register.register_of.Given as goal
 
 abbrev pub invariant-loop-i : goal.invariant-loop-i
-invariant-loop-i g l =
-    record {
-      value : l.register ≡ held g.row.DEGREE g.row.GENERATOR l.fn.first (take l.i l.bits);
-      small : l.register < 2 ^ g.row.DEGREE;
-    }
+invariant-loop-i g l = l.register ≡ block_rest g.row.DEGREE g.row.GENERATOR (take l.i l.bits)

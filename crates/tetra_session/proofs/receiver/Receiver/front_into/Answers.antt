@@ -1,18 +1,27 @@
-use Rattle.std.proofs.Common.{◌∙◌, set}
+use Rattle.std.proofs.Common.{◌≡◌, length, map, arith, ap, ◌∙◌}
 use Rattle.arrayvec.specs.ArrayVec.{with_items}
-use Rattle.tetra_session.proofs.Answering.{front_is}
-use Rattle.tetra_session.proofs.FieldLemmas.{front_formed}
-use Rattle.tetra_session.proofs.OneField.{one_written}
+use Rattle.tetra_session.specs.Heard.{field_heard}
+use Rattle.tetra_session.proofs.Answering.{written_over, front_is, front_formed}
 use Rattle.tetra_session.proofs.receiver.Receiver.front_into.Goals as goal
 
 pub returns-clause-front : goal.returns-clause-front
 returns-clause-front c = λ settings history h.
-    front_is settings c.args.self.now.settings history c.args.soft.now c.args.self.now.turn c.byte-front.result c.letter_heard-letter.result c.args.self.now.key h.same h.turn c.args.self.now.keyed c.letter_heard-letter.ensures c.byte-front.ensures
-    (with_items c.keep_one.new.fields (set c.deref_mut.result.now 0 c.hear_field.new.field))
-    (one_written c.keep_one.new.fields c.deref_mut.result.now c.hear_field.new.field c.deref_mut.ensures.value c.keep_one.ensures ∙ c.hear_field.ensures)
+    let own = c.args.self.now in
+    let places = c.heard-letter.result.1.items in
+    let heard = field_heard own.settings.dir own.keys.colour c.args.soft.now in
+    let each : c.hear_fields.new.fields ≡ map heard places = c.hear_fields.ensures ∙ ap (map heard) c.deref.ensures.0 in
+    front_is settings own.settings history c.args.soft.now own.turn c.byte-front.result c.heard-letter.result.0 own.keys.colour places
+    h.same h.turn own.keyed c.heard-letter.ensures.letter c.byte-front.ensures c.heard-letter.ensures.places
+    (with_items c.keep_fields.new.fields c.hear_fields.new.fields)
+    (written_over heard c.keep_fields.new.fields places c.hear_fields.new.fields c.len.result each c.keep_fields.ensures c.len.ensures.value)
 
 pub returns-clause-well_formed : goal.returns-clause-well_formed
 returns-clause-well_formed c =
-    front_formed c.letter_heard-letter.result c.byte-front.result c.args.self.now.key c.args.soft.now (with_items c.keep_one.new.fields (set c.deref_mut.result.now 0 c.hear_field.new.field))
-    (rw (← c.letter_heard-letter.ensures) at c.requires.built) c.byte-front.ensures
-    (one_written c.keep_one.new.fields c.deref_mut.result.now c.hear_field.new.field c.deref_mut.ensures.value c.keep_one.ensures ∙ c.hear_field.ensures)
+    let own = c.args.self.now in
+    let places = c.heard-letter.result.1.items in
+    let heard = field_heard own.settings.dir own.keys.colour c.args.soft.now in
+    let each : c.hear_fields.new.fields ≡ map heard places = c.hear_fields.ensures ∙ ap (map heard) c.deref.ensures.0 in
+    let size : length c.args.soft.now ≡ 510 = omega arith in
+    front_formed c.field_sizes.ensures own.settings.dir own.keys.colour c.args.soft.now size c.heard-letter.result.0 c.byte-front.result places
+    (with_items c.keep_fields.new.fields c.hear_fields.new.fields) c.heard-letter.ensures.fit c.byte-front.ensures
+    (written_over heard c.keep_fields.new.fields places c.hear_fields.new.fields c.len.result each c.keep_fields.ensures c.len.ensures.value)

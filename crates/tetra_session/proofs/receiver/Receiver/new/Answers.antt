@@ -1,5 +1,5 @@
 use Rattle.std.proofs.Common.{refl}
-use Rattle.tetra_session.proofs.BuiltLemmas.{nothing_kept}
+use Rattle.tetra_session.specs.lemmas.Modes.{nothing_kept}
 use Rattle.tetra_session.proofs.receiver.Receiver.new.Goals as goal
 
 pub returns : goal.returns

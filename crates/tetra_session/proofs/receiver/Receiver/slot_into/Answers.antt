@@ -1,23 +1,39 @@
-use Rattle.std.proofs.Common.{◌∙◌, set}
+use Rattle.std.proofs.Common.{◌≡◌, length, map, arith, ap, ◌∙◌}
 use Rattle.arrayvec.specs.ArrayVec.{with_items}
-use Rattle.tetra_session.proofs.Answering.{reading_is}
-use Rattle.tetra_session.proofs.FieldLemmas.{reading_formed, only}
-use Rattle.tetra_session.proofs.OneField.{one_written}
-use Rattle.tetra_session.specs.Fronts.{IsBounded}
+use Rattle.tetra_session.specs.Heard.{field_of_place}
+use Rattle.tetra_session.proofs.Answering.{written_over, reading_is, reading_formed, reading_bounded}
 use Rattle.tetra_session.proofs.receiver.Receiver.slot_into.Goals as goal
 
 pub returns-clause-reading : goal.returns-clause-reading
 returns-clause-reading c = λ settings history h.
-    reading_is settings c.args.self.now.settings history c.args.soft.now c.args.self.now.turn c.byte-reading.result c.letter_heard-letter.result c.args.self.now.key h.same h.turn c.args.self.now.keyed c.letter_heard-letter.ensures c.byte-reading.ensures
-    (with_items c.keep_one.new.fields (set c.deref_mut.result.now 0 c.read_field.new.field))
-    (one_written c.keep_one.new.fields c.deref_mut.result.now c.read_field.new.field c.deref_mut.ensures.value c.keep_one.ensures ∙ c.read_field.ensures.fields)
+    let own = c.args.self.now in
+    let places = c.heard-letter.result.1.items in
+    let heard = field_of_place own.settings own.keys.colour c.args.soft.now in
+    let each : c.read_fields.new.fields ≡ map heard places = c.read_fields.ensures ∙ ap (map heard) c.deref.ensures.0 in
+    reading_is settings own.settings history c.args.soft.now own.turn c.byte-reading.result c.heard-letter.result.0 own.keys.colour places
+    h.same h.turn own.keyed c.heard-letter.ensures.letter c.byte-reading.ensures c.heard-letter.ensures.places
+    (with_items c.keep_fields.new.fields c.read_fields.new.fields)
+    (written_over heard c.keep_fields.new.fields places c.read_fields.new.fields c.len.result each c.keep_fields.ensures c.len.ensures.value)
 
 pub returns-clause-well_formed : goal.returns-clause-well_formed
 returns-clause-well_formed c =
-    reading_formed c.letter_heard-letter.result c.byte-reading.result c.args.self.now.key c.args.soft.now (with_items c.keep_one.new.fields (set c.deref_mut.result.now 0 c.read_field.new.field))
-    (rw (← c.letter_heard-letter.ensures) at c.requires.built) c.byte-reading.ensures
-    (one_written c.keep_one.new.fields c.deref_mut.result.now c.read_field.new.field c.deref_mut.ensures.value c.keep_one.ensures ∙ c.read_field.ensures.fields)
+    let own = c.args.self.now in
+    let places = c.heard-letter.result.1.items in
+    let heard = field_of_place own.settings own.keys.colour c.args.soft.now in
+    let each : c.read_fields.new.fields ≡ map heard places = c.read_fields.ensures ∙ ap (map heard) c.deref.ensures.0 in
+    let size : length c.args.soft.now ≡ 510 = omega arith in
+    reading_formed c.field_sizes.ensures own.settings own.keys.colour c.args.soft.now size c.heard-letter.result.0 c.byte-reading.result places
+    (with_items c.keep_fields.new.fields c.read_fields.new.fields) c.heard-letter.ensures.fit c.byte-reading.ensures
+    (written_over heard c.keep_fields.new.fields places c.read_fields.new.fields c.len.result each c.keep_fields.ensures c.len.ensures.value)
 
 pub returns-clause-bounded : goal.returns-clause-bounded
 returns-clause-bounded c =
-    rw (one_written c.keep_one.new.fields c.deref_mut.result.now c.read_field.new.field c.deref_mut.ensures.value c.keep_one.ensures) (only IsBounded c.read_field.new.field c.read_field.ensures.bounded)
+    let own = c.args.self.now in
+    let places = c.heard-letter.result.1.items in
+    let heard = field_of_place own.settings own.keys.colour c.args.soft.now in
+    let each : c.read_fields.new.fields ≡ map heard places = c.read_fields.ensures ∙ ap (map heard) c.deref.ensures.0 in
+    let size : length c.args.soft.now ≡ 510 = omega arith in
+    let fields = with_items c.keep_fields.new.fields c.read_fields.new.fields in
+    reading_bounded c.field_sizes.ensures own.settings own.keys.colour c.args.soft.now size c.heard-letter.result.0 places fields.items
+    c.heard-letter.ensures.fit
+    (written_over heard c.keep_fields.new.fields places c.read_fields.new.fields c.len.result each c.keep_fields.ensures c.len.ensures.value)

@@ -1,16 +1,13 @@
--- Settings that are built.
+-- The modes of settings that are built.
 use Rattle.std.proofs.Common.{ℕ, ◌-◌, ◌≡◌, inl, inr, Bool, true, false, List, length, get_or, refl, sym, ap, ◌∙◌}
-use Rattle.std.proofs.lemmas.Bool.{and_parts, cases_lt}
+use Rattle.std.proofs.lemmas.Bool.{cases_lt}
 use Rattle.std.proofs.lemmas.List.{get_or_past}
 use Rattle.std.proofs.lemmas.List.Folds.{list_all_at}
 use Rattle.std.specs.List.{list_all}
-use Rattle.tetra_settings.specs.Validity.{IsValid, IsInRanges, HasMode}
-use Rattle.tetra_settings.specs.declared.types.Dir.{Dir}
-use Rattle.tetra_settings.specs.declared.types.Dir.TheVariants.{Dl, Ul}
 use Rattle.tetra_settings.specs.declared.types.Mode.{Mode}
 use Rattle.tetra_settings.specs.declared.types.Mode.TheVariants.{Sig, Cb, D72, D48, D24, Speech}
 use Rattle.tetra_settings.specs.declared.types.Settings.{Settings}
-use Rattle.tetra_session.specs.Built.{is_built, is_built_mode, is_uplink}
+use Rattle.tetra_session.specs.Built.{is_built, is_built_mode}
 use Rattle.tetra_session.specs.Time.{timeslot_mode, depth}
 
 built_in : (modes : List Mode) (i : ℕ) (b : Bool) → is_built_mode (get_or modes i Sig) ≡ b → list_all is_built_mode modes ≡ true → b ≡ true
@@ -24,13 +21,12 @@ built_in modes i false e all =
 -- each timeslot's mode is built
 pub mode_built : (settings : Settings) (i : ℕ) → is_built settings ≡ true → is_built_mode (get_or settings.modes i Sig) ≡ true
 mode_built settings i h =
-    let all = (and_parts (is_uplink settings.dir) (list_all is_built_mode settings.modes) h).1 in
-    built_in settings.modes i (is_built_mode (get_or settings.modes i Sig)) refl all
+    built_in settings.modes i (is_built_mode (get_or settings.modes i Sig)) refl h
 
 depth_none : (mode : Mode) → is_built_mode mode ≡ true → depth mode ≡ 0
 depth_none Sig h = refl
 depth_none D72 h = refl
-depth_none Cb h = absurd cc
+depth_none Cb h = refl
 depth_none (D48 span) h = absurd cc
 depth_none (D24 span) h = absurd cc
 depth_none Speech h = absurd cc
@@ -38,18 +34,3 @@ depth_none Speech h = absurd cc
 -- nothing is kept of a timeslot
 pub nothing_kept : (settings : Settings) (c : ℕ) → is_built settings ≡ true → depth (timeslot_mode settings c) ≡ 0
 nothing_kept settings c h = depth_none (timeslot_mode settings c) (mode_built settings (c - 1) h)
-
-uplink_has : (dir : Dir) (mode : Mode) → is_uplink dir ≡ true → HasMode dir mode
-uplink_has Dl mode h = absurd cc
-uplink_has Ul Sig h = tt
-uplink_has Ul Cb h = tt
-uplink_has Ul D72 h = tt
-uplink_has Ul (D48 span) h = tt
-uplink_has Ul (D24 span) h = tt
-uplink_has Ul Speech h = tt
-
--- settings in range that are built are valid
-pub built_valid : (settings : Settings) → IsInRanges settings → is_built settings ≡ true → IsValid settings
-built_valid settings ranges h =
-    let up = (and_parts (is_uplink settings.dir) (list_all is_built_mode settings.modes) h).0 in
-    record { ranges = ranges; modes = λ i. uplink_has settings.dir (get_or settings.modes i Sig) up }

@@ -1,0 +1,4 @@
+-- Facts on the definitions of this crate, with their proofs, for the proofs here and in the crates above. No contract
+-- cites them.
+pub mod Joined
+pub mod Written

@@ -1,0 +1,9 @@
+-- Facts on the definitions of this crate, with their proofs, for the proofs here and in the crates above. No contract
+-- cites them, but for a struct that keeps valid settings.
+pub mod Valid
+pub mod Modes
+pub mod Places
+pub mod Values
+pub mod Plans
+pub mod Fields
+pub mod Written

@@ -1,0 +1,143 @@
+-- The places of the fields of a slot that is built.
+use Rattle.std.proofs.Common.{◌≡◌, ℕ, ◌-◌, inl, inr, Bool, true, false, if◌then◌else◌, nat_eq, List, [], ◌∷◌, ℤ, All, arith, refl}
+use Rattle.std.proofs.lemmas.List.Elements.{All-nil, All-cons}
+use Rattle.tetra_bursts.specs.Kind.{kind}
+use Rattle.tetra_bursts.specs.declared.table.Train.{Train}
+use Rattle.tetra_bursts.specs.declared.table.Train.TheVariants.{N, P as PTrain, Y}
+use Rattle.tetra_settings.specs.Slots.{timeslot_of, frame_of, mode_of, use_of, use_in, byte_of}
+use Rattle.tetra_settings.specs.Validity.{HasMode, IsValid}
+use Rattle.tetra_settings.specs.declared.types.Dir.{Dir}
+use Rattle.tetra_settings.specs.declared.types.Dir.TheVariants.{Dl, Ul}
+use Rattle.tetra_settings.specs.declared.types.Mode.{Mode}
+use Rattle.tetra_settings.specs.declared.types.Mode.TheVariants.{Sig, Cb, D72, D48, D24, Speech}
+use Rattle.tetra_settings.specs.declared.types.Settings.{Settings}
+use Rattle.tetra_settings.specs.declared.slots.Letter.{Letter}
+use Rattle.tetra_settings.specs.declared.slots.Letter.TheVariants.{F, H, S, T, C}
+use Rattle.tetra_settings.specs.declared.slots.SlotUse.{SlotUse}
+use Rattle.tetra_settings.specs.declared.slots.SlotUse.TheVariants.{Signalling, Traffic}
+use Rattle.tetra_settings.specs.declared.readings.FieldName.TheVariants.{Aach, Sync, Half, Hu, Full, D72 as D72Field}
+use Rattle.tetra_session.specs.Built.{is_built, is_built_mode, IsBuiltLetter}
+use Rattle.tetra_session.specs.Heard.{allowed_in, letter_by, letter_heard, slot_letter}
+use Rattle.tetra_session.specs.Spots.{place, places_of, is_downlink, FitsSpot, ArePlaces}
+use Rattle.tetra_session.specs.declared.spots.Place.{Place}
+use Rattle.tetra_session.specs.declared.spots.Spot.TheVariants.{Access, SyncAccess, Sync as SyncSpot, FirstBlock, SecondBlock, WholeSlot, FirstSubslot, SecondSubslot}
+use Rattle.tetra_session.specs.lemmas.Modes.{mode_built}
+
+-- lists of one, two and three places that fit
+one : (dir : Dir) (a : Place) → FitsSpot dir a → All (FitsSpot dir) (a ∷ [])
+one dir a fa = All-cons (FitsSpot dir) a [] fa (All-nil (FitsSpot dir))
+
+two : (dir : Dir) (a b : Place) → FitsSpot dir a → FitsSpot dir b → All (FitsSpot dir) (a ∷ b ∷ [])
+two dir a b fa fb = All-cons (FitsSpot dir) a (b ∷ []) fa (one dir b fb)
+
+three : (dir : Dir) (a b c : Place) → FitsSpot dir a → FitsSpot dir b → FitsSpot dir c → All (FitsSpot dir) (a ∷ b ∷ c ∷ [])
+three dir a b c fa fb fc = All-cons (FitsSpot dir) a (b ∷ c ∷ []) fa (two dir b c fb fc)
+
+access : FitsSpot Dl (place Aach Access)
+access = record { built = tt; here = refl; size = refl }
+
+access_sync : FitsSpot Dl (place Aach SyncAccess)
+access_sync = record { built = tt; here = refl; size = refl }
+
+sync : FitsSpot Dl (place Sync SyncSpot)
+sync = record { built = tt; here = refl; size = refl }
+
+first : (dir : Dir) → FitsSpot dir (place Half FirstBlock)
+first dir = record { built = tt; here = tt; size = refl }
+
+second : (dir : Dir) → FitsSpot dir (place Half SecondBlock)
+second dir = record { built = tt; here = tt; size = refl }
+
+full : (dir : Dir) → FitsSpot dir (place Full WholeSlot)
+full dir = record { built = tt; here = tt; size = refl }
+
+raw : (dir : Dir) → FitsSpot dir (place D72Field WholeSlot)
+raw dir = record { built = tt; here = tt; size = refl }
+
+first_sub : FitsSpot Ul (place Hu FirstSubslot)
+first_sub = record { built = tt; here = refl; size = refl }
+
+second_sub : FitsSpot Ul (place Hu SecondSubslot)
+second_sub = record { built = tt; here = refl; size = refl }
+
+-- signalling on the downlink, by its training sequence
+signalling_down : (mode : Mode) (train : Train) → ArePlaces Dl (letter_by Signalling train) (places_of Dl (letter_by Signalling train) mode)
+signalling_down mode N = record {
+  row = (F, D72, tt, tt, refl, inr refl);
+  fit = two Dl (place Aach Access) (place Full WholeSlot) access (full Dl);
+  few = omega arith;
+}
+signalling_down mode PTrain = record {
+  row = (H, D72, tt, tt, refl, inr refl);
+  fit = three Dl (place Aach Access) (place Half FirstBlock) (place Half SecondBlock) access (first Dl) (second Dl);
+  few = omega arith;
+}
+signalling_down mode Y = record {
+  row = (S, D72, tt, tt, refl, inr refl);
+  fit = three Dl (place Aach SyncAccess) (place Sync SyncSpot) (place Half SecondBlock) access_sync sync (second Dl);
+  few = omega arith;
+}
+
+signalling_up : (mode : Mode) → ArePlaces Ul F (places_of Ul F mode)
+signalling_up mode = record {
+  row = (F, D72, tt, tt, refl, inl refl);
+  fit = one Ul (place Full WholeSlot) (full Ul);
+  few = omega arith;
+}
+
+control_up : (mode : Mode) → ArePlaces Ul C (places_of Ul C mode)
+control_up mode = record {
+  row = (C, D72, tt, tt, refl, inl refl);
+  fit = two Ul (place Hu FirstSubslot) (place Hu SecondSubslot) first_sub second_sub;
+  few = omega arith;
+}
+
+raw_places : (dir : Dir) → ArePlaces dir T (places_of dir T D72)
+raw_places Dl = record {
+  row = (T, D72, tt, tt, refl, inr refl);
+  fit = two Dl (place Aach Access) (place D72Field WholeSlot) access (raw Dl);
+  few = omega arith;
+}
+raw_places Ul = record {
+  row = (T, D72, tt, tt, refl, inl refl);
+  fit = one Ul (place D72Field WholeSlot) (raw Ul);
+  few = omega arith;
+}
+
+-- the letter of a slot of a use
+abbrev letter_in : Dir → SlotUse → List ℤ → Letter
+letter_in dir slot soft = letter_by slot (kind soft (is_downlink dir) (allowed_in dir slot))
+
+signalling : (dir : Dir) (mode : Mode) (soft : List ℤ) → ArePlaces dir (letter_in dir Signalling soft) (places_of dir (letter_in dir Signalling soft) mode)
+unfolding kind
+signalling Dl mode soft = signalling_down mode (kind soft true (allowed_in Dl Signalling))
+signalling Ul mode soft = signalling_up mode
+
+traffic_by : (dir : Dir) (train : Train) → IsBuiltLetter (byte_of (letter_by Traffic train)) → ArePlaces dir (letter_by Traffic train) (places_of dir (letter_by Traffic train) D72)
+traffic_by dir N h = raw_places dir
+traffic_by dir PTrain h = absurd cc
+traffic_by dir Y h = raw_places dir
+
+-- frame 18 of unprotected data is signalling
+raw_by : (dir : Dir) (soft : List ℤ) (last : Bool) → IsBuiltLetter (byte_of (letter_in dir (if last then Signalling else Traffic) soft))
+    → ArePlaces dir (letter_in dir (if last then Signalling else Traffic) soft) (places_of dir (letter_in dir (if last then Signalling else Traffic) soft) D72)
+raw_by dir soft true h = signalling dir D72 soft
+raw_by dir soft false h = traffic_by dir (kind soft (is_downlink dir) (allowed_in dir Traffic)) h
+
+by_mode : (dir : Dir) (mode : Mode) (frame : ℕ) (soft : List ℤ) → HasMode dir mode → is_built_mode mode ≡ true
+    → IsBuiltLetter (byte_of (letter_in dir (use_in mode frame) soft))
+    → ArePlaces dir (letter_in dir (use_in mode frame) soft) (places_of dir (letter_in dir (use_in mode frame) soft) mode)
+by_mode dir Sig frame soft has built h = signalling dir Sig soft
+by_mode Dl Cb frame soft has built h = absurd has
+by_mode Ul Cb frame soft has built h = control_up Cb
+by_mode dir D72 frame soft has built h = raw_by dir soft (nat_eq frame 18) h
+by_mode dir (D48 span) frame soft has built h = absurd cc
+by_mode dir (D24 span) frame soft has built h = absurd cc
+by_mode dir Speech frame soft has built h = absurd cc
+
+-- a slot of built settings whose letter is built: its letter and the names of its fields are a row, and each place fits
+pub are_places : (settings : Settings) (t : ℕ) (soft : List ℤ) → IsValid settings → is_built settings ≡ true → IsBuiltLetter (slot_letter settings t soft)
+    → ArePlaces settings.dir (letter_heard settings t soft) (places_of settings.dir (letter_heard settings t soft) (mode_of settings t))
+unfolding letter_heard use_of mode_of
+are_places settings t soft valid built h =
+    by_mode settings.dir (mode_of settings t) (frame_of settings.at t) soft (valid.modes (timeslot_of settings.at t - 1)) (mode_built settings (timeslot_of settings.at t - 1) built) h

@@ -8,7 +8,7 @@ use Rattle.std.specs.Bool.{⊤}
 use Rattle.std.specs.List.{concat}
 use Rattle.tetra_bits.specs.Soft.{IsSoft, AllSoft, soft_value, value_at}
 use Rattle.tetra_records.specs.Readings.{reading_spelling}
-use Rattle.tetra_session.specs.Arrives.{SlotRead, SlotsArrive, WrittenArrives}
+use Rattle.tetra_session.specs.Arrives.{SlotRead, SlotsArrive, WrittenSlotsArrive}
 use Rattle.tetra_session.specs.Built.{is_built_letter, IsBuilt}
 use Rattle.tetra_session.specs.Heard.{letter_heard, slot_letter, slot_reading}
 use Rattle.tetra_session.specs.Sent.{slot_written, KeepsSlot}
@@ -146,39 +146,38 @@ slot_back (v ∷ values) soft =
     ap (λ x. x ∷ soft_values (slot_bytes values)) (value_back v (soft 0 v (omega arith)))
     ∙ ap (λ rest. v ∷ rest) (slot_back values (λ k d within. soft (suc k) d (omega arith)))
 
-module _ (settings : Settings) (keep : WrittenArrives) (built : IsBuilt settings) where
-  module _ (history : List SlotBlocks) (blocks : SlotBlocks) (fits : (encoding settings).Fits history blocks) where
-    kept : IsKept settings history blocks (slot_bytes (slot_written settings history blocks))
-    kept =
-        let own = keep settings history blocks built fits.0 fits.1 in
-        subst (KeepsSlot settings history blocks) (sym (slot_back (slot_written settings history blocks) own.soft)) own.kept
+module _ (settings : Settings) (keep : WrittenSlotsArrive) where
+  kept : (history : List SlotBlocks) (blocks : SlotBlocks) → IsKept settings history blocks (slot_bytes (slot_written settings history blocks))
+  kept history blocks =
+      let own = keep settings history blocks in
+      subst (KeepsSlot settings history blocks) (sym (slot_back (slot_written settings history blocks) own.soft)) own.kept
 
-    long : length (slot_bytes (slot_written settings history blocks)) ≡ 510
-    long = length-map (slot_written settings history blocks) value_byte ∙ (keep settings history blocks built fits.0 fits.1).size
+  long : (history : List SlotBlocks) (blocks : SlotBlocks) → length (slot_bytes (slot_written settings history blocks)) ≡ 510
+  long history blocks = length-map (slot_written settings history blocks) value_byte ∙ (keep settings history blocks).size
 
   -- all slots that are written are received undamaged
-  all_received : (all before : List SlotBlocks) → AreInputs (encoding settings) before all → AreReceived settings before all (slots_for settings before all)
-  all_received [] before each = tt
-  all_received (blocks ∷ all) before each = ((long before blocks each.0, inl (kept before blocks each.0)), all_received all (before ++ blocks ∷ []) each.1)
+  all_received : (all before : List SlotBlocks) → AreReceived settings before all (slots_for settings before all)
+  all_received [] before = tt
+  all_received (blocks ∷ all) before = ((long before blocks, inl (kept before blocks)), all_received all (before ++ blocks ∷ []))
 
-  all_read : (all before : List SlotBlocks) (readings : List SlotReading) → AreInputs (encoding settings) before all → AreRead (IsKept settings) before all (slots_for settings before all) readings
+  all_read : (all before : List SlotBlocks) (readings : List SlotReading) → AreRead (IsKept settings) before all (slots_for settings before all) readings
       → AreRead (λ sent blocks slot. ⊤) before all (slots_for settings before all) readings
-  all_read [] before [] each read = tt
-  all_read [] before (reading ∷ readings) each read = absurd read
-  all_read (blocks ∷ all) before [] each read = absurd read
-  all_read (blocks ∷ all) before (reading ∷ readings) each read = (λ _. read.0 (kept before blocks each.0), all_read all (before ++ blocks ∷ []) readings each.1 read.1)
+  all_read [] before [] read = tt
+  all_read [] before (reading ∷ readings) read = absurd read
+  all_read (blocks ∷ all) before [] read = absurd read
+  all_read (blocks ∷ all) before (reading ∷ readings) read = (λ _. read.0 (kept before blocks), all_read all (before ++ blocks ∷ []) readings read.1)
 
 one_by_one : (settings : Settings) (all before : List SlotBlocks) → concat (slots_for settings before all) ≡ outputs (encoding settings) before all
 one_by_one settings [] before = refl
 one_by_one settings (blocks ∷ all) before = ap (λ rest. slot_bytes (slot_written settings before blocks) ++ rest) (one_by_one settings all (before ++ blocks ∷ []))
 
-pub encoded_is_decoded : SlotsArrive → WrittenArrives → EncodedIsDecoded
+pub encoded_is_decoded : SlotsArrive → WrittenSlotsArrive → EncodedIsDecoded
 encoded_is_decoded arrive keep settings form max bytes written end ran built few =
     let anything : Outcome (encoding settings) settings.max bytes (λ output. ⊤) end = record { xs = ran.xs; rest = ran.rest; cut = ran.cut; closes = ran.closes; slots = ran.slots; output = tt } in
     let slots : List (List ℕ) = slots_for settings [] ran.xs in
-    let decoded = received_is_decoded arrive settings form max bytes end anything slots built few (all_received settings keep built ran.xs [] ran.cut.each) in
+    let decoded = received_is_decoded arrive settings form max bytes end anything slots built few (all_received settings keep ran.xs []) in
     let same : concat slots ≡ written = one_by_one settings ran.xs [] ∙ ran.output in
-    let named : NameBlocks (λ before blocks slot. ⊤) form ran.xs slots (outputs (decoding (to_read_back settings form max)) [] decoded.xs) = record { readings = decoded.output.readings; read = all_read settings keep built ran.xs [] decoded.output.readings ran.cut.each decoded.output.read; spelled = decoded.output.spelled } in
+    let named : NameBlocks (λ before blocks slot. ⊤) form ran.xs slots (outputs (decoding (to_read_back settings form max)) [] decoded.xs) = record { readings = decoded.output.readings; read = all_read settings keep ran.xs [] decoded.output.readings decoded.output.read; spelled = decoded.output.spelled } in
     let again : Outcome (decoding (to_read_back settings form max)) max (concat slots) (NameBlocks (λ before blocks slot. ⊤) form ran.xs slots) (record { status = Done; slots = end.slots }) =
     record { xs = decoded.xs; rest = decoded.rest; cut = decoded.cut; closes = decoded.closes; slots = decoded.slots; output = named } in
     rw same at again

@@ -10,7 +10,7 @@ ghost use Rattle.tetra_engine.specs.Shapes.{OneCut};
 
 use tetra_audit::own_records_agree;
 use tetra_records::records_are_unambiguous;
-use tetra_session::{slots_arrive, written_arrives};
+use tetra_session::{slots_arrive, written_slots_arrive};
 
 /// A list of bytes has one cut into block records, one into slots, and one into slots with reading records.
 pub fn one_cut()
@@ -47,5 +47,5 @@ pub fn encoded_is_decoded()
     ensures as_written { EncodedIsDecoded }
 {
     slots_arrive();
-    written_arrives();
+    written_slots_arrive();
 }

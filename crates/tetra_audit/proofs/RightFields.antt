@@ -190,7 +190,6 @@ module _ (rows : List ℕ) (field : FrontField) (bytes : List ℕ) (small : (k :
     fits : Fits channel.plan soft (claimed_bits (bits_part (channel.plan.steps - 4) bytes) (channel.plan.steps - 4))
     unfolding claimed_bits channel soft
     fits =
-        let plan = coded.channel.plan in
         let steps : 6 ≤ coded.channel.plan.steps = coded.laws.sizes.few_steps.0 in
         let many : length (numbered (unpacked_bit (bits_part (coded.channel.plan.steps - 4) bytes)) (coded.channel.plan.steps - 4)) ≡ coded.channel.plan.steps - 4 = length-numbered (unpacked_bit (bits_part (coded.channel.plan.steps - 4) bytes)) (coded.channel.plan.steps - 4) in
         record { sizes = coded.laws.sizes; rise = coded.laws.rise; lie = coded.laws.lie; message = omega arith; values = coded.sent }

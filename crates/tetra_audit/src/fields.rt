@@ -112,32 +112,14 @@ pub fn field_fault(
             bytes,
         );
     };
+    // That of the signalling channels.
+    let parity = Parity::Sixteen;
     match field.name {
         FieldName::Aach => access_fault(rows, soft, bytes),
-        FieldName::Sync => coded_fault::<TwoThirds<80, 120>>(
-            Parity::Sixteen,
-            soft,
-            bytes,
-            potentials,
-        ),
-        FieldName::Half => coded_fault::<TwoThirds<144, 216>>(
-            Parity::Sixteen,
-            soft,
-            bytes,
-            potentials,
-        ),
-        FieldName::Hu => coded_fault::<TwoThirds<112, 168>>(
-            Parity::Sixteen,
-            soft,
-            bytes,
-            potentials,
-        ),
-        FieldName::Full => coded_fault::<TwoThirds<288, 432>>(
-            Parity::Sixteen,
-            soft,
-            bytes,
-            potentials,
-        ),
+        FieldName::Sync => coded_fault::<TwoThirds<80, 120>>(parity, soft, bytes, potentials),
+        FieldName::Half => coded_fault::<TwoThirds<144, 216>>(parity, soft, bytes, potentials),
+        FieldName::Hu => coded_fault::<TwoThirds<112, 168>>(parity, soft, bytes, potentials),
+        FieldName::Full => coded_fault::<TwoThirds<288, 432>>(parity, soft, bytes, potentials),
         FieldName::D72 => plain_fault(&read_plain(soft), 0, Mark::Unchecked, bytes),
         FieldName::D48 | FieldName::D24 | FieldName::Whole | FieldName::Single => unreachable!(),
     }

@@ -1,5 +1,5 @@
 -- The codes of the fields.
-use Rattle.std.proofs.Common.{◌≡◌, ℕ, ◌+◌, ◌≤◌, false, nat_eq, Some, arith, refl, ap, subst, ◌∙◌}
+use Rattle.std.proofs.Common.{◌≡◌, ℕ, ◌+◌, ◌≤◌, false, nat_eq, Some, arith, refl, subst, ◌∙◌}
 use Rattle.std.proofs.lemmas.Bool.Decides.{nat_tests}
 use Rattle.tetra_channels.specs.Channels.{Channel}
 use Rattle.tetra_session.specs.Readers.{Reader, Access, Plain, Trellis, NotBuilt, reader, channel_of}

@@ -1,5 +1,5 @@
 -- The tests, the reading and the length of a field by its name and its values.
-use Rattle.std.proofs.Common.{◌≡◌, ◌⊎◌, inl, inr, ℕ, ◌+◌, ◌*◌, Bool, false, List, [], ◌∷◌, length, replicate, ℤ, Option, Some, None, arith, refl, sym, ap, subst, ◌∙◌}
+use Rattle.std.proofs.Common.{◌≡◌, ◌⊎◌, inl, inr, ℕ, ◌+◌, ◌*◌, Bool, false, List, length, replicate, ℤ, Option, Some, None, arith, refl, sym, ap, subst, ◌∙◌}
 use Rattle.std.specs.Prelude.{MatchOption}
 use Rattle.std.proofs.Math.ListN.{length-replicate}
 use Rattle.tetra_bits.specs.Cost.{metric}
@@ -13,7 +13,7 @@ use Rattle.tetra_channels.specs.Channels.{Channel, bsch, hu, half, full}
 use Rattle.tetra_channels.specs.Fields.{access_reading, coded_reading, raw_reading}
 use Rattle.tetra_rm.specs.Code.{access_metric, best_access}
 use Rattle.tetra_session.specs.Fronts.{IsFrontField}
-use Rattle.tetra_session.specs.Readers.{Reader, Trellis, reader, channel_of, read_by, field_reading, not_yet}
+use Rattle.tetra_session.specs.Readers.{Trellis, reader, channel_of, read_by, field_reading, not_yet}
 use Rattle.tetra_session.specs.declared.front.FrontField.{FrontField}
 use Rattle.tetra_session.specs.lemmas.Plans.{HasPlanLaws}
 use Rattle.tetra_settings.specs.Readings.{sizes, message_bits, certificate_rows, MayBeNotYet}

@@ -1,6 +1,6 @@
 -- The record that is defined for a slot agrees.
 use Prim.Native.Nat.{suc}
-use Rattle.std.proofs.Common.{◌≡◌, inl, inr, ℕ, ◌+◌, ◌*◌, ◌<◌, ◌≤◌, IsTrue, Bool, List, [], ◌∷◌, ◌++◌, length, length-append, map, sum_by, ℤ, Option, Some, None, arith, refl, sym, ap, subst, le_trans, ◌∙◌}
+use Rattle.std.proofs.Common.{◌≡◌, inl, inr, ℕ, ◌+◌, ◌*◌, ◌<◌, ◌≤◌, Bool, List, [], ◌∷◌, ◌++◌, length, length-append, map, sum_by, ℤ, Option, Some, None, arith, refl, sym, ap, subst, le_trans, ◌∙◌}
 use Rattle.std.proofs.lemmas.List.Elements.{All-map, All-weaker}
 use Rattle.std.proofs.lemmas.List.Sums.{sum_by-cons}
 use Rattle.std.proofs.lemmas.Simd.{map-map}
@@ -22,11 +22,10 @@ use Rattle.tetra_puncture.specs.Spread.{spread_values}
 use Rattle.tetra_puncture.specs.ToGo.{potentials_of, potential_row}
 use Rattle.tetra_puncture.specs.lemmas.OwnCosts.{costs_to_go_are_accepted}
 use Rattle.tetra_puncture.specs.lemmas.Shapes.{length-potentials_of, length-potential_row}
-use Rattle.tetra_records.specs.Readings.{two_bytes, table_bytes, certificate_bytes, field_bytes, reading_spelling}
+use Rattle.tetra_records.specs.Readings.{two_bytes, certificate_bytes, field_bytes, reading_spelling}
 use Rattle.tetra_rm.specs.declared.table.Rows.{Rows}
-use Rattle.tetra_session.specs.Built.{IsBuilt, IsBuiltLetter}
 use Rattle.tetra_session.specs.Fronts.{IsFrontField, IsFront, IsBounded}
-use Rattle.tetra_session.specs.Heard.{letter_heard, slot_letter, place_values, field_heard, fields_heard, slot_front, slot_reading}
+use Rattle.tetra_session.specs.Heard.{letter_heard, place_values, field_heard, fields_heard, slot_front, slot_reading}
 use Rattle.tetra_session.specs.Readers.{reader, channel_of, field_reading, read_field, read_front}
 use Rattle.tetra_session.specs.Spots.{places_of, FitsSpot, ArePlaces}
 use Rattle.tetra_session.specs.declared.front.FrontField.{FrontField}
@@ -36,14 +35,12 @@ use Rattle.tetra_session.specs.lemmas.Fields.{field_bounded}
 use Rattle.tetra_session.specs.lemmas.Places.{are_places}
 use Rattle.tetra_session.specs.lemmas.Values.{place_size, place_within}
 use Rattle.tetra_settings.specs.Slots.{byte_of, mode_of}
-use Rattle.tetra_settings.specs.Validity.{IsValid}
 use Rattle.tetra_settings.specs.declared.readings.Field.{Field}
 use Rattle.tetra_settings.specs.declared.slots.Letter.{Letter}
 use Rattle.tetra_settings.specs.declared.slots.Letter.TheVariants.{F, H, S, T, P, Q, C}
 use Rattle.tetra_settings.specs.declared.types.Dir.{Dir}
 use Rattle.tetra_settings.specs.declared.types.Form.TheVariants.{Audit}
-use Rattle.tetra_settings.specs.declared.types.Settings.{Settings}
-use Rattle.tetra_audit.specs.Agreement.{IsCertificate, AreCertified, IsRight, AreRight, AreBytes, own_record, OwnRecordsAgree}
+use Rattle.tetra_audit.specs.Agreement.{IsCertificate, AreCertified, IsRight, AreRight, AreBytes, OwnRecordsAgree}
 use Rattle.tetra_audit.specs.Fields.{IsAudited, field_length, claim_length}
 use Rattle.tetra_audit.specs.Verdicts.{slot_verdict}
 use Rattle.tetra_audit.specs.declared.verdict.SlotVerdict.TheVariants.{Agrees}
@@ -159,11 +156,14 @@ module _ (rows : Rows) (front : Front) (top : ℕ) (few : top * 432 ≤ 65535) (
 
   pub agrees : (length (reading_spelling Audit (read_front rows.0 front)) ≡ claim_length front) × (slot_verdict rows front (reading_spelling Audit (read_front rows.0 front)) ≡ Agrees)
   unfolding claim read_front
-  agrees = (long, (agrees_exactly rows front claim is audited bytes long).1 (record {
-    claimed = map (read_field rows.0) front.fields.items;
-    right = rights rows.0 front.fields.items is.fields audited;
-    spelled = refl;
-  }))
+  agrees = (
+    long,
+    (agrees_exactly rows front claim is audited bytes long).1 (record {
+      claimed = map (read_field rows.0) front.fields.items;
+      right = rights rows.0 front.fields.items is.fields audited;
+      spelled = refl;
+    }),
+  )
 
 -- the front of a slot
 module _ (law : FieldsHaveSizes) (rows : List ℕ) (dir : Dir) (key : List Bool) (soft : List ℤ) (size : length soft ≡ 510) (all : AllSoft soft) where

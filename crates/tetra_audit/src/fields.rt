@@ -56,7 +56,12 @@ fn access_fault(rows: &Rows, soft: &Soft, bytes: &[u8]) -> Option<FieldWhy>
     ensures { result ≡ plain_why (access_reading rows.now.0 soft.now) bytes.now }
 {
     let read = decode(rows, soft);
-    plain_fault(&message_bits(read.message), read.metric, Mark::Unchecked, bytes)
+    plain_fault(
+        &message_bits(read.message),
+        read.metric,
+        Mark::Unchecked,
+        bytes,
+    )
 }
 
 /// The tests of a field of a channel with this parity and the plan `P`, whatever its interleaver. The certificate is
@@ -100,14 +105,39 @@ pub fn field_fault(
     ensures { result ≡ field_why rows.now.0 field.now bytes.now }
 {
     let Some(soft) = &field.soft else {
-        return plain_fault(&Bits::zeros(field.name.sizes().bits), 0, Mark::NotYet, bytes);
+        return plain_fault(
+            &Bits::zeros(field.name.sizes().bits),
+            0,
+            Mark::NotYet,
+            bytes,
+        );
     };
     match field.name {
         FieldName::Aach => access_fault(rows, soft, bytes),
-        FieldName::Sync => coded_fault::<TwoThirds<80, 120>>(Parity::Sixteen, soft, bytes, potentials),
-        FieldName::Half => coded_fault::<TwoThirds<144, 216>>(Parity::Sixteen, soft, bytes, potentials),
-        FieldName::Hu => coded_fault::<TwoThirds<112, 168>>(Parity::Sixteen, soft, bytes, potentials),
-        FieldName::Full => coded_fault::<TwoThirds<288, 432>>(Parity::Sixteen, soft, bytes, potentials),
+        FieldName::Sync => coded_fault::<TwoThirds<80, 120>>(
+            Parity::Sixteen,
+            soft,
+            bytes,
+            potentials,
+        ),
+        FieldName::Half => coded_fault::<TwoThirds<144, 216>>(
+            Parity::Sixteen,
+            soft,
+            bytes,
+            potentials,
+        ),
+        FieldName::Hu => coded_fault::<TwoThirds<112, 168>>(
+            Parity::Sixteen,
+            soft,
+            bytes,
+            potentials,
+        ),
+        FieldName::Full => coded_fault::<TwoThirds<288, 432>>(
+            Parity::Sixteen,
+            soft,
+            bytes,
+            potentials,
+        ),
         FieldName::D72 => plain_fault(&read_plain(soft), 0, Mark::Unchecked, bytes),
         FieldName::D48 | FieldName::D24 | FieldName::Whole | FieldName::Single => unreachable!(),
     }

@@ -12,7 +12,11 @@ pub fn field_len(field: &FrontField) -> usize
     ensures bytes { result ≡ field_length field.now }
     ensures few { result ≤ 9433 }
 {
-    let rows = if field.soft.is_some() { field.name.certificate_rows() } else { 0 };
+    let rows = if field.soft.is_some() {
+        field.name.certificate_rows()
+    } else {
+        0
+    };
     3 + field.name.message_bytes() + 32 * rows
 }
 

@@ -2,9 +2,8 @@
 use Rattle.std.proofs.Common.{◌≡◌, Bool, true, false, List, length, refl, ◌∙◌, ℤ}
 use Rattle.std.specs.Prelude.{is_some}
 use Rattle.tetra_bits.specs.Soft.{AllSoft}
-use Rattle.tetra_bursts.specs.Bursts.{blocks_down, synchronisation, blocks_up, sub_bits, subs_table, pairs, downlink, normal_down_slot, sync_down_slot, normal_up_slot, control_up_slot}
-use Rattle.tetra_bursts.specs.Phase.{signs}
-use Rattle.tetra_bursts.specs.Slot.{Carried, with_pairs, written}
+use Rattle.tetra_bursts.specs.Bursts.{subs_table, downlink, normal_down_slot, sync_down_slot, normal_up_slot, control_up_slot}
+use Rattle.tetra_bursts.specs.Slot.{Carried, written}
 use Rattle.tetra_bursts.specs.Table.{total, normal_down, sync_down, normal_up}
 use Rattle.tetra_bursts.specs.declared.table.Span.{Span}
 use Rattle.tetra_bursts.specs.lemmas.Written.{written_size, written_soft}

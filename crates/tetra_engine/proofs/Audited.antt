@@ -1,5 +1,5 @@
 -- Slots with what is claimed for them, at the front of the input.
-use Rattle.std.proofs.Common.{◌≡◌, ℕ, ◌≤◌, List, [], ◌∷◌, ◌++◌, length, ap, sym, ◌∙◌, arith, length-append, append_assoc, append-nil, true, false, subst, ℤ, Bool, All, zero, suc}
+use Rattle.std.proofs.Common.{◌≡◌, ℕ, ◌≤◌, List, [], ◌∷◌, ◌++◌, length, ap, sym, ◌∙◌, arith, length-append, append_assoc, append-nil, true, false, subst, ℤ, Bool, All, map}
 use Rattle.std.proofs.lemmas.List.{map-append, length-map}
 use Rattle.std.specs.declared.option.Option.{Option}
 use Rattle.std.specs.Io.KnownBytes.{Consumes}
@@ -10,7 +10,14 @@ use Rattle.tetra_engine.specs.declared.intake.Intake.{Intake}
 use Rattle.tetra_engine.specs.declared.work.Stop.{Stop}
 use Rattle.tetra_audit.specs.declared.verdict.SlotVerdict.{SlotVerdict}
 use Rattle.tetra_audit.specs.declared.verdict.SlotVerdict.TheVariants.{Agrees, Kind, Field}
-use Rattle.tetra_session.specs.Heard.{slot_front, letter_heard, fields_heard}
+use Rattle.std.proofs.lemmas.List.Elements.{All-map, All-weaker}
+use Rattle.tetra_settings.specs.Validity.{IsValid}
+use Rattle.tetra_settings.specs.declared.types.Dir.{Dir}
+use Rattle.tetra_session.specs.Built.{IsBuilt, IsBuiltLetter}
+use Rattle.tetra_session.specs.Heard.{slot_front, slot_letter, letter_heard, field_heard, fields_heard}
+use Rattle.tetra_session.specs.Spots.{FitsSpot, ArePlaces}
+use Rattle.tetra_session.specs.declared.spots.Place.{Place}
+use Rattle.tetra_session.specs.lemmas.Places.{are_places}
 use Rattle.tetra_session.specs.declared.front.Front.{Front}
 use Rattle.tetra_session.specs.declared.front.FrontField.{FrontField}
 use Rattle.tetra_settings.specs.declared.slots.Letter.{Letter}
@@ -112,26 +119,20 @@ pub counts_number : (r : Refusals) (slots : List ℕ) → Counts r slots → r.c
 counts_number r [] counts = counts
 counts_number r (slot ∷ slots) counts = counts.1
 
-one_field : (field : FrontField) → IsAudited field → All IsAudited (field ∷ [])
-one_field field audited zero d below = audited
-one_field field audited (suc k) d below = absurd (omega arith)
+place_audited : (dir : Dir) (key : List Bool) (soft : List ℤ) (place : Place) → FitsSpot dir place → IsAudited (field_heard dir key soft place)
+unfolding field_heard
+place_audited dir key soft place fit = fit.built
 
-no_field : All IsAudited []
-no_field k d below = absurd (omega arith)
+places_audited : (dir : Dir) (key : List Bool) (soft : List ℤ) (letter : Letter) (places : List Place) → ArePlaces dir letter places → All IsAudited (map (field_heard dir key soft) places)
+places_audited dir key soft letter places are =
+    All-map IsAudited (field_heard dir key soft) places (All-weaker (FitsSpot dir) (λ place. IsAudited (field_heard dir key soft place)) (place_audited dir key soft) places are.fit)
 
-fields_audited : (letter : Letter) (key : List Bool) (soft : List ℤ) → All IsAudited (fields_heard letter key soft)
-fields_audited F key soft = one_field _ tt
-fields_audited T key soft = one_field _ tt
-fields_audited H key soft = no_field
-fields_audited S key soft = no_field
-fields_audited P key soft = no_field
-fields_audited Q key soft = no_field
-fields_audited C key soft = no_field
-
-heard_audited : (settings : Settings) (history : List (List ℤ)) (soft : List ℤ) → All IsAudited (slot_front settings history soft).fields.items
-unfolding slot_front
-heard_audited settings history soft = fields_audited (letter_heard settings (length history) soft) _ soft
+heard_audited : (settings : Settings) (history : List (List ℤ)) (soft : List ℤ) → IsValid settings → IsBuilt settings → IsBuiltLetter (slot_letter settings (length history) soft)
+    → All IsAudited (slot_front settings history soft).fields.items
+unfolding slot_front fields_heard
+heard_audited settings history soft valid built letter = places_audited settings.dir _ soft _ _ (are_places settings (length history) soft valid built letter)
 
 -- the fields of a front can be audited
-pub front_audited : (settings : Settings) (history : List (List ℤ)) (soft : List ℤ) (front : Front) → front ≡ slot_front settings history soft → All IsAudited front.fields.items
-front_audited settings history soft front is = subst (λ f. All IsAudited f.fields.items) (sym is) (heard_audited settings history soft)
+pub front_audited : (settings : Settings) (history : List (List ℤ)) (soft : List ℤ) (front : Front) → IsValid settings → IsBuilt settings → IsBuiltLetter (slot_letter settings (length history) soft)
+    → front ≡ slot_front settings history soft → All IsAudited front.fields.items
+front_audited settings history soft front valid built letter is = subst (λ f. All IsAudited f.fields.items) (sym is) (heard_audited settings history soft valid built letter)

@@ -6,6 +6,7 @@ use Rattle.tetra_bits.specs.Soft.{AllSoft}
 use Rattle.tetra_io.specs.Filling.{TakesFewer}
 use Rattle.tetra_settings.specs.Validity.{IsValid}
 use Rattle.tetra_records.specs.declared.faults.RecordFault.TheVariants.{Truncated}
+use Rattle.tetra_session.specs.Built.{IsBuilt}
 use Rattle.tetra_session.specs.Heard.{ReceiverStands}
 use Rattle.tetra_engine.specs.declared.intake.Intake.{Intake}
 use Rattle.tetra_engine.specs.declared.work.Stop.{Stop}
@@ -17,6 +18,7 @@ use Rattle.tetra_engine.specs.Slots.{soft_values}
 -- its receiver was given these slots
 pub record IntakeStands (intake : Intake) (heard : List (List ℤ)) : Type 0 where
   pub valid : IsValid intake.settings
+  pub built : IsBuilt intake.settings
   pub receiver : ReceiverStands intake.settings heard intake.receiver
 
 -- it holds slot n, whose letter is built

@@ -1,7 +1,8 @@
 use Rattle.std.proofs.Common.{rules, arith, ◌≡◌, ◌∙◌, ap, sym, subst, length, ◌++◌, ◌∷◌, []}
 use Rattle.std.proofs.KnownBytes.{Consumes-trans}
 use Rattle.tetra_io.specs.Filling.{TakesFewer}
-use Rattle.tetra_session.specs.Heard.{ReceiverStands}
+use Rattle.tetra_session.specs.Built.{IsBuiltLetter}
+use Rattle.tetra_session.specs.Heard.{ReceiverStands, slot_letter}
 use Rattle.tetra_engine.specs.Auditing.{auditing, slots_of, front_at, refused_slots}
 use Rattle.tetra_engine.specs.Intake.{IntakeStands}
 use Rattle.tetra_engine.specs.Refusals.{Counts}
@@ -43,17 +44,18 @@ returns-in-Whole-clause-gives g c xs stands slot =
     let at = slot_at settings xs c.next.new.self c.front_into.new.front c.claim_len-self.result same holds heard c.claim_len-self.ensures.length in
     let taken = c.front_into.ensures.stands _ (slots_of xs) next.receiver in
     let size : length c.fill.new.buf ≡ c.claim_len-self.result = search rules in
+    let letter = subst (λ v. IsBuiltLetter (slot_letter c.next.new.self.settings (length (slots_of xs)) v)) (sym holds.values) holds.built in
     let few = refused_few settings [] xs in
     let count = counts_number c.args.self.now.refusals _ stands.refusals in (
       (c.next.new.self.bytes, c.fill.new.buf),
       record {
-        intake = record { valid = next.valid; receiver = subst (λ v. ReceiverStands c.next.new.self.settings (slots_of xs ++ v ∷ []) c.front_into.new.self) holds.values taken };
+        intake = record { valid = next.valid; built = next.built; receiver = subst (λ v. ReceiverStands c.next.new.self.settings (slots_of xs ++ v ∷ []) c.front_into.new.self) holds.values taken };
         refusals = subst (λ s. Counts c.args.self.now.refusals (refused_slots s [] xs)) (sym same) stands.refusals;
         counted = omega (arith, few, count, slot);
         slot = slot;
         front = at.front_is ∙ ap (λ s. front_at s xs c.next.new.self.bytes) (sym same);
         formed = c.front_into.ensures.well_formed;
-        audited = front_audited c.next.new.self.settings (slots_of xs) c.next.new.self.soft c.front_into.new.front heard;
+        audited = front_audited c.next.new.self.settings (slots_of xs) c.next.new.self.soft c.front_into.new.front next.valid next.built letter heard;
         size = c.claim_len-self.ensures.length;
         within = c.claim_len-self.ensures.most;
         claim = take_front c.claim_len-self.result c.fill.new.buf _ size;

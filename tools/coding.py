@@ -289,12 +289,6 @@ def mark_of(name, bits):
     return ord("G" if parity_of(name, bits[: field.block]) == bits[field.block :] else "B")
 
 
-def segments(span_of_slots):
-    """For a block over N slots: the type-4 bits before the block interleaver that go to the block of j slots ago, for each j."""
-    length = 432 // span_of_slots
-    return [range(j * length, (j + 1) * length) for j in range(span_of_slots)]
-
-
 class Receiver:
     """Cuts slots into fields: for each its values in type-3 order, None where not all slots of its block are there yet."""
 

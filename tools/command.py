@@ -58,6 +58,11 @@ def opened(name="-"):
     return sys.stdin.buffer if name == "-" else open(name, "rb")
 
 
+def output():
+    """Standard output for bytes, buffered whatever Python was told of it: a bare descriptor may take a part of a piece."""
+    return open(sys.stdout.fileno(), "wb", closefd=False)
+
+
 def built(program=None):
     """The program; proves and builds it first where it is not built and no other one is named."""
     if program is not None:

@@ -2,6 +2,7 @@
 what a file holds, and readers of its records. Bits, positions and places are counted from 1 in the documents and from 0 here.
 """
 import dataclasses
+import functools
 from typing import NamedTuple
 
 SLOT = 510
@@ -121,8 +122,7 @@ class Settings:
 
     def mode_and_span(self, timeslot):
         """The mode of a timeslot, and over how many of its slots a block is spread."""
-        mode, _, span = (self.ts1, self.ts2, self.ts3, self.ts4)[timeslot - 1].partition("n")
-        return mode, int(span or 1)
+        return parted((self.ts1, self.ts2, self.ts3, self.ts4)[timeslot - 1])
 
     def mode(self, slot):
         """The mode that counts in a slot: frame 18 of a traffic timeslot carries signalling."""
@@ -137,11 +137,23 @@ class Settings:
 
     def names(self, slot, letter, record):
         """The names of the fields of a block record (0) or a reading record (1) with this letter in this slot."""
-        fixed = LETTERS[letter][record]
-        loads = LOADS.get(self.mode(slot), {})
-        names = ["aach"] if self.dir == "dl" else []
-        names += [loads[letter] if name == "load" else name for name in fixed]
-        return [name for name in names if name is not None]
+        return names_of(self.dir, self.mode(slot), letter, record)
+
+
+@functools.cache
+def parted(mode):
+    """A mode of the words as mode and span: `d48n4` is d48 over 4 slots."""
+    name, _, span = mode.partition("n")
+    return name, int(span or 1)
+
+
+@functools.cache
+def names_of(direction, mode, letter, record):
+    """The names of the fields of a block record (0) or a reading record (1) of a letter."""
+    loads = LOADS.get(mode, {})
+    names = ["aach"] if direction == "dl" else []
+    names += [loads[letter] if name == "load" else name for name in LETTERS[letter][record]]
+    return [name for name in names if name is not None]
 
 
 def settings_of(words, more=None):

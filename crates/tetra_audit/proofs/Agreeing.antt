@@ -2,25 +2,27 @@
 use Rattle.std.proofs.Common.{◌≡◌, ℕ, ◌+◌, ◌-◌, ◌*◌, ◌/◌, ◌%◌, ◌<◌, ◌≤◌, Bool, true, false, cond, eqb, List, [], ◌∷◌, ◌++◌, length, get_or, ℤ, Option, Some, None, arith, refl, sym, ap, subst, ◌∙◌, length-drop}
 use Rattle.std.proofs.lemmas.Bool.Decides.{nat_tests}
 use Rattle.std.proofs.lemmas.List.{get_or-drop}
-use Rattle.tetra_bits.proofs.Packing_lists.{packed_pads, packed_taken, pads_clean}
+use Rattle.tetra_bits.specs.lemmas.Packing_lists.{packed_pads, packed_taken, pads_clean}
 use Rattle.tetra_bits.specs.Numbered.{length-numbered}
 use Rattle.tetra_bits.specs.Packed.{bytes_for, packed, packed_byte, HasPad}
 use Rattle.tetra_bits.specs.declared.reading.Mark.{Mark}
-use Rattle.tetra_cert.proofs.Places.{accepted_exactly}
+use Rattle.tetra_cert.specs.lemmas.Places.{accepted_exactly}
 use Rattle.tetra_cert.specs.Verdicts.{verdict_of}
 use Rattle.tetra_cert.specs.declared.verdict.Verdict.{Verdict}
 use Rattle.tetra_cert.specs.declared.verdict.Verdict.TheVariants.{Accepted, Refused}
-use Rattle.tetra_channels.specs.Fields.{coded_reading, mark_of}
-use Rattle.tetra_puncture.proofs.Certificates.{accepted_is_certified}
-use Rattle.tetra_puncture.proofs.Shapes.{length-best_of}
+use Rattle.tetra_channels.specs.Channels.{Channel}
+use Rattle.tetra_channels.specs.Fields.{coded_reading}
+use Rattle.tetra_parity.specs.Marks.{mark_of}
+use Rattle.tetra_puncture.specs.lemmas.Certificates.{accepted_is_certified}
+use Rattle.tetra_puncture.specs.lemmas.Shapes.{length-best_of}
 use Rattle.tetra_puncture.specs.Best.{best_of, message_metric}
 use Rattle.tetra_puncture.specs.Certified.{Fits, IsCertified}
 use Rattle.tetra_puncture.specs.Rules.{IsAccepted}
 use Rattle.tetra_puncture.specs.Spread.{spread_values}
-use Rattle.tetra_records.specs.Readings.{mark_byte, two_bytes, table_bytes}
+use Rattle.tetra_bits.specs.Readings.{mark_byte}
+use Rattle.tetra_records.specs.Readings.{two_bytes, table_bytes}
 use Rattle.tetra_audit.specs.Agreement.{IsCertificate}
 use Rattle.tetra_audit.specs.Claims.{claimed_bits, claimed_table, has_pad, mark_part, metric_part, bits_part, table_part}
-use Rattle.tetra_audit.specs.Fields.{Code}
 use Rattle.tetra_audit.specs.Parts.{coded_why}
 use Rattle.tetra_audit.specs.Verdicts.{first_of, fault_by, pad_fault, cert_fault, metric_fault, mark_fault}
 use Rattle.tetra_audit.specs.declared.verdict.FieldWhy.{FieldWhy}
@@ -80,22 +82,22 @@ same_number x y why e = at (eqb x y) refl e
     at false is h = absurd (cc)
 
 -- the tests of a field of a code
-module _ (code : Code) (soft : List ℤ) (bytes : List ℕ) where
+module _ (channel : Channel) (soft : List ℤ) (bytes : List ℕ) where
   -- what they compare
   pub record Passes : Type 0 where
-    pub clean : has_pad (bits_part (code.plan.steps - 4) bytes) (code.plan.steps - 4) ≡ false
-    pub accepted : verdict_of code.plan soft (claimed_bits (bits_part (code.plan.steps - 4) bytes) (code.plan.steps - 4)) (claimed_table (table_part (code.plan.steps - 4) bytes) (code.plan.steps + 1)) ≡ Accepted
-    pub metric : metric_part bytes ≡ message_metric code.plan soft (best_of code.plan soft)
-    pub mark : mark_part bytes ≡ mark_byte (mark_of code.parity (best_of code.plan soft))
+    pub clean : has_pad (bits_part (channel.plan.steps - 4) bytes) (channel.plan.steps - 4) ≡ false
+    pub accepted : verdict_of channel.plan soft (claimed_bits (bits_part (channel.plan.steps - 4) bytes) (channel.plan.steps - 4)) (claimed_table (table_part (channel.plan.steps - 4) bytes) (channel.plan.steps + 1)) ≡ Accepted
+    pub metric : metric_part bytes ≡ message_metric channel.plan soft (best_of channel.plan soft)
+    pub mark : mark_part bytes ≡ mark_byte (mark_of channel.parity (best_of channel.plan soft))
 
-  pub none_fails : Passes → coded_why code.parity code.plan soft bytes ≡ None
+  pub none_fails : Passes → coded_why channel soft bytes ≡ None
   unfolding coded_why pad_fault cert_fault metric_fault mark_fault coded_reading
   none_fails p =
-      let d : eqb (metric_part bytes) (message_metric code.plan soft (best_of code.plan soft)) ≡ true = is_same _ _ p.metric in
-      let e : eqb (mark_part bytes) (mark_byte (mark_of code.parity (best_of code.plan soft))) ≡ true = is_same _ _ p.mark in
+      let d : eqb (metric_part bytes) (message_metric channel.plan soft (best_of channel.plan soft)) ≡ true = is_same _ _ p.metric in
+      let e : eqb (mark_part bytes) (mark_byte (mark_of channel.parity (best_of channel.plan soft))) ≡ true = is_same _ _ p.mark in
       rw (p.clean, p.accepted, d, e) refl
 
-  pub all_pass : coded_why code.parity code.plan soft bytes ≡ None → Passes
+  pub all_pass : coded_why channel soft bytes ≡ None → Passes
   unfolding coded_why pad_fault cert_fault metric_fault mark_fault coded_reading
   all_pass none =
       let one = first_none _ _ none in
@@ -105,38 +107,38 @@ module _ (code : Code) (soft : List ℤ) (bytes : List ℕ) where
       record { clean = no_fault _ _ one.0; accepted = is_accepted _ two.0; metric = same_number _ _ _ three.0; mark = same_number _ _ _ four.0 }
 
 -- the field as it is defined, with a table
-unfoldable pub defined : Code → List ℤ → List (List ℕ) → List ℕ
-defined code soft table = spelled (mark_of code.parity (best_of code.plan soft)) (message_metric code.plan soft (best_of code.plan soft)) (best_of code.plan soft) (table_bytes table)
+unfoldable pub defined : Channel → List ℤ → List (List ℕ) → List ℕ
+defined channel soft table = spelled (mark_of channel.parity (best_of channel.plan soft)) (message_metric channel.plan soft (best_of channel.plan soft)) (best_of channel.plan soft) (table_bytes table)
 
-module _ (code : Code) (soft : List ℤ) (table : List (List ℕ)) where
+module _ (channel : Channel) (soft : List ℤ) (table : List (List ℕ)) where
   -- it passes
-  pub defined_passes : IsCertificate code soft table → ((k : ℕ) → get_or (defined code soft table) k 0 < 256) → 3 + bytes_for (code.plan.steps - 4) ≤ length (defined code soft table) → Passes code soft (defined code soft table)
+  pub defined_passes : IsCertificate channel.plan soft table → ((k : ℕ) → get_or (defined channel soft table) k 0 < 256) → 3 + bytes_for (channel.plan.steps - 4) ≤ length (defined channel soft table) → Passes channel soft (defined channel soft table)
   unfolding defined
   defined_passes is small fits = record {
     clean = pad_spelled mark metric best (table_bytes table) len size;
-    accepted = ap (λ m. verdict_of code.plan soft m (claimed_table (table_part len bytes) (code.plan.steps + 1))) (sym bits_claimed)
-        ∙ (ap (verdict_of code.plan soft best) table_claimed ∙ (accepted_exactly code.plan soft best table).1 is.accepted);
+    accepted = ap (λ m. verdict_of channel.plan soft m (claimed_table (table_part len bytes) (channel.plan.steps + 1))) (sym bits_claimed)
+        ∙ (ap (verdict_of channel.plan soft best) table_claimed ∙ (accepted_exactly channel.plan soft best table).1 is.accepted);
     metric = metric_spelled mark metric best (table_bytes table) len size;
     mark = mark_spelled mark metric best (table_bytes table) len size;
   }
     where
       best : List Bool
-      best = best_of code.plan soft
+      best = best_of channel.plan soft
 
       len : ℕ
-      len = code.plan.steps - 4
+      len = channel.plan.steps - 4
 
       mark : Mark
-      mark = mark_of code.parity best
+      mark = mark_of channel.parity best
 
       metric : ℕ
-      metric = message_metric code.plan soft best
+      metric = message_metric channel.plan soft best
 
       bytes : List ℕ
       bytes = spelled mark metric best (table_bytes table)
 
       size : length best ≡ len
-      size = length-best_of code.plan soft
+      size = length-best_of channel.plan soft
 
       part : bits_part len bytes ≡ packed best
       part = bits_spelled mark metric best (table_bytes table) len size
@@ -144,58 +146,58 @@ module _ (code : Code) (soft : List ℤ) (table : List (List ℕ)) where
       bits_claimed : best ≡ claimed_bits (bits_part len bytes) len
       bits_claimed = claimed_is (bits_part len bytes) len best (small_part bytes (bytes_for len) small) (length-part bytes (bytes_for len) fits) size (sym part)
 
-      table_claimed : claimed_table (table_part len bytes) (code.plan.steps + 1) ≡ table
-      table_claimed = ap (λ t. claimed_table t (code.plan.steps + 1)) (table_spelled mark metric best (table_bytes table) len size) ∙ table_back table (code.plan.steps + 1) is.states is.rows
+      table_claimed : claimed_table (table_part len bytes) (channel.plan.steps + 1) ≡ table
+      table_claimed = ap (λ t. claimed_table t (channel.plan.steps + 1)) (table_spelled mark metric best (table_bytes table) len size) ∙ table_back table (channel.plan.steps + 1) is.states is.rows
 
 -- a field that passes is so spelled
-module _ (code : Code) (soft : List ℤ) (bytes : List ℕ) (fits : Fits code.plan soft (claimed_bits (bits_part (code.plan.steps - 4) bytes) (code.plan.steps - 4))) (small : (k : ℕ) → get_or bytes k 0 < 256)
-    (size : length bytes ≡ 3 + bytes_for (code.plan.steps - 4) + 32 * (code.plan.steps + 1)) (passes : Passes code soft bytes) where
+module _ (channel : Channel) (soft : List ℤ) (bytes : List ℕ) (fits : Fits channel.plan soft (claimed_bits (bits_part (channel.plan.steps - 4) bytes) (channel.plan.steps - 4))) (small : (k : ℕ) → get_or bytes k 0 < 256)
+    (size : length bytes ≡ 3 + bytes_for (channel.plan.steps - 4) + 32 * (channel.plan.steps + 1)) (passes : Passes channel soft bytes) where
   len : ℕ
-  len = code.plan.steps - 4
+  len = channel.plan.steps - 4
 
   message : List Bool
-  message = claimed_bits (bits_part (code.plan.steps - 4) bytes) (code.plan.steps - 4)
+  message = claimed_bits (bits_part (channel.plan.steps - 4) bytes) (channel.plan.steps - 4)
 
   pub table : List (List ℕ)
-  table = claimed_table (table_part (code.plan.steps - 4) bytes) (code.plan.steps + 1)
+  table = claimed_table (table_part (channel.plan.steps - 4) bytes) (channel.plan.steps + 1)
 
-  certified : IsCertified code.plan soft message table
+  certified : IsCertified channel.plan soft message table
   unfolding message table
-  certified = accepted_is_certified code.plan soft message table fits ((accepted_exactly code.plan soft message table).0 passes.accepted)
+  certified = accepted_is_certified channel.plan soft message table fits ((accepted_exactly channel.plan soft message table).0 passes.accepted)
 
-  pub is_certificate : IsCertificate code soft table
+  pub is_certificate : IsCertificate channel.plan soft table
   unfolding message table
   is_certificate = record {
-    rows = length-claimed_table (table_part (code.plan.steps - 4) bytes) (code.plan.steps + 1);
-    states = rows_of_16 (table_part (code.plan.steps - 4) bytes) (code.plan.steps + 1);
-    accepted = subst (λ (m : List Bool). IsAccepted code.plan (spread_values code.plan soft) m table) certified.is_best ((accepted_exactly code.plan soft message table).0 passes.accepted);
+    rows = length-claimed_table (table_part (channel.plan.steps - 4) bytes) (channel.plan.steps + 1);
+    states = rows_of_16 (table_part (channel.plan.steps - 4) bytes) (channel.plan.steps + 1);
+    accepted = subst (λ (m : List Bool). IsAccepted channel.plan (spread_values channel.plan soft) m table) certified.is_best ((accepted_exactly channel.plan soft message table).0 passes.accepted);
   }
 
-  bits_again : packed (best_of code.plan soft) ≡ bits_part (code.plan.steps - 4) bytes
+  bits_again : packed (best_of channel.plan soft) ≡ bits_part (channel.plan.steps - 4) bytes
   unfolding message claimed_bits
   bits_again =
-      let part : List ℕ = bits_part (code.plan.steps - 4) bytes in
-      let none : HasPad part (code.plan.steps - 4) → ⊥ = λ h. let clash : true ≡ false = sym (pad_found part (code.plan.steps - 4) h) ∙ passes.clean in cc in
-      ap packed (sym certified.is_best) ∙ packed_taken part (code.plan.steps - 4) (small_part bytes (bytes_for (code.plan.steps - 4)) small)
-      (length-part bytes (bytes_for (code.plan.steps - 4)) (omega arith)) (pads_clean part (code.plan.steps - 4) none)
+      let part : List ℕ = bits_part (channel.plan.steps - 4) bytes in
+      let none : HasPad part (channel.plan.steps - 4) → ⊥ = λ h. let clash : true ≡ false = sym (pad_found part (channel.plan.steps - 4) h) ∙ passes.clean in cc in
+      ap packed (sym certified.is_best) ∙ packed_taken part (channel.plan.steps - 4) (small_part bytes (bytes_for (channel.plan.steps - 4)) small)
+      (length-part bytes (bytes_for (channel.plan.steps - 4)) (omega arith)) (pads_clean part (channel.plan.steps - 4) none)
 
-  small_behind : (k : ℕ) → get_or (table_part (code.plan.steps - 4) bytes) k 0 < 256
-  small_behind k = let e : get_or (table_part (code.plan.steps - 4) bytes) k 0 ≡ get_or bytes (3 + bytes_for (code.plan.steps - 4) + k) 0 = get_or-drop (3 + bytes_for (code.plan.steps - 4)) bytes k 0 in omega (arith, small (3 + bytes_for (code.plan.steps - 4) + k))
+  small_behind : (k : ℕ) → get_or (table_part (channel.plan.steps - 4) bytes) k 0 < 256
+  small_behind k = let e : get_or (table_part (channel.plan.steps - 4) bytes) k 0 ≡ get_or bytes (3 + bytes_for (channel.plan.steps - 4) + k) 0 = get_or-drop (3 + bytes_for (channel.plan.steps - 4)) bytes k 0 in omega (arith, small (3 + bytes_for (channel.plan.steps - 4) + k))
 
-  rows_again : table_bytes table ≡ table_part (code.plan.steps - 4) bytes
+  rows_again : table_bytes table ≡ table_part (channel.plan.steps - 4) bytes
   unfolding table
   rows_again =
-      table_again (table_part (code.plan.steps - 4) bytes) (code.plan.steps + 1) small_behind
-      (let behind : length (table_part (code.plan.steps - 4) bytes) ≡ length bytes - (3 + bytes_for (code.plan.steps - 4)) = length-drop (3 + bytes_for (code.plan.steps - 4)) bytes in omega arith)
+      table_again (table_part (channel.plan.steps - 4) bytes) (channel.plan.steps + 1) small_behind
+      (let behind : length (table_part (channel.plan.steps - 4) bytes) ≡ length bytes - (3 + bytes_for (channel.plan.steps - 4)) = length-drop (3 + bytes_for (channel.plan.steps - 4)) bytes in omega arith)
 
-  pub is_defined : defined code soft table ≡ bytes
+  pub is_defined : defined channel soft table ≡ bytes
   unfolding defined spelled
   is_defined =
-      let metric : ℕ = message_metric code.plan soft (best_of code.plan soft) in
+      let metric : ℕ = message_metric channel.plan soft (best_of channel.plan soft) in
       let halves = number_split (get_or bytes 1 0) (get_or bytes 2 0) metric (small 2) (sym passes.metric) in
-      ap (λ m. (m ∷ metric / 256 ∷ metric % 256 ∷ []) ++ packed (best_of code.plan soft) ++ table_bytes table) (sym passes.mark)
-      ∙ (ap (λ x. (get_or bytes 0 0 ∷ x ∷ metric % 256 ∷ []) ++ packed (best_of code.plan soft) ++ table_bytes table) halves.0
-      ∙ (ap (λ y. (get_or bytes 0 0 ∷ get_or bytes 1 0 ∷ y ∷ []) ++ packed (best_of code.plan soft) ++ table_bytes table) halves.1
+      ap (λ m. (m ∷ metric / 256 ∷ metric % 256 ∷ []) ++ packed (best_of channel.plan soft) ++ table_bytes table) (sym passes.mark)
+      ∙ (ap (λ x. (get_or bytes 0 0 ∷ x ∷ metric % 256 ∷ []) ++ packed (best_of channel.plan soft) ++ table_bytes table) halves.0
+      ∙ (ap (λ y. (get_or bytes 0 0 ∷ get_or bytes 1 0 ∷ y ∷ []) ++ packed (best_of channel.plan soft) ++ table_bytes table) halves.1
       ∙ (ap (λ part. (get_or bytes 0 0 ∷ get_or bytes 1 0 ∷ get_or bytes 2 0 ∷ []) ++ part ++ table_bytes table) bits_again
-      ∙ (ap (λ behind. (get_or bytes 0 0 ∷ get_or bytes 1 0 ∷ get_or bytes 2 0 ∷ []) ++ bits_part (code.plan.steps - 4) bytes ++ behind) rows_again
-      ∙ parts_together bytes (bytes_for (code.plan.steps - 4)) (omega arith)))))
+      ∙ (ap (λ behind. (get_or bytes 0 0 ∷ get_or bytes 1 0 ∷ get_or bytes 2 0 ∷ []) ++ bits_part (channel.plan.steps - 4) bytes ++ behind) rows_again
+      ∙ parts_together bytes (bytes_for (channel.plan.steps - 4)) (omega arith)))))

@@ -1,25 +1,29 @@
--- The tests and the length of a field by its name and its values.
-use Rattle.std.proofs.Common.{◌≡◌, ◌≢◌, ℕ, ◌+◌, ◌*◌, Bool, false, List, [], ◌∷◌, ◌++◌, length, replicate, ℤ, Option, Some, None, arith, refl, sym, ap, subst, ◌∙◌}
+-- The tests, the reading and the length of a field by its name and its values.
+use Rattle.std.proofs.Common.{◌≡◌, ◌⊎◌, inl, inr, ℕ, ◌+◌, ◌*◌, Bool, false, List, length, replicate, ℤ, Option, Some, None, arith, refl, sym, ap, subst, ◌∙◌}
 use Rattle.std.specs.Prelude.{MatchOption}
-use Rattle.std.proofs.lemmas.List.{replicate-append-replicate}
-use Rattle.tetra_bits.proofs.Best.{best_is_first}
+use Rattle.std.proofs.Math.ListN.{length-replicate}
 use Rattle.tetra_bits.specs.Cost.{metric}
+use Rattle.tetra_bits.specs.Digits.{digits}
 use Rattle.tetra_bits.specs.Packed.{bytes_for}
 use Rattle.tetra_bits.specs.Plain.{best_plain}
 use Rattle.tetra_bits.specs.declared.reading.Mark.TheVariants.{Unchecked, NotYet}
 use Rattle.tetra_bits.specs.declared.reading.Reading.{Reading}
-use Rattle.tetra_channels.specs.Fields.{raw_reading}
-use Rattle.tetra_session.specs.Fronts.{IsFrontField, field_values}
+use Rattle.tetra_bits.specs.lemmas.Best.{best_is_first}
+use Rattle.tetra_channels.specs.Channels.{Channel, bsch, hu, half, full}
+use Rattle.tetra_channels.specs.Fields.{access_reading, coded_reading, raw_reading}
+use Rattle.tetra_rm.specs.Code.{access_metric, best_access}
+use Rattle.tetra_session.specs.Fronts.{IsFrontField}
+use Rattle.tetra_session.specs.Readers.{Trellis, reader, channel_of, read_by, field_reading, not_yet}
 use Rattle.tetra_session.specs.declared.front.FrontField.{FrontField}
-use Rattle.tetra_settings.specs.Readings.{message_bits, certificate_rows, MayBeNotYet}
+use Rattle.tetra_session.specs.lemmas.Plans.{HasPlanLaws}
+use Rattle.tetra_settings.specs.Readings.{sizes, message_bits, certificate_rows, MayBeNotYet}
 use Rattle.tetra_settings.specs.declared.readings.FieldName.{FieldName}
 use Rattle.tetra_settings.specs.declared.readings.FieldName.TheVariants.{Aach, Sync, Half, Hu, Full, D72, D48, D24, Whole, Single}
-use Rattle.tetra_audit.specs.Fields.{Code, code_of, IsAuditedName, IsAuditedAt, IsAudited, not_yet, field_reading, field_length}
+use Rattle.tetra_audit.specs.Agreement.{AreCertified}
+use Rattle.tetra_audit.specs.Fields.{IsAuditedAt, IsAudited, claimed_rows, field_length}
 use Rattle.tetra_audit.specs.Parts.{plain_why, coded_why}
-use Rattle.tetra_audit.specs.Verdicts.{first_of, field_tests, field_why, pad_fault, bits_fault, metric_fault, mark_fault}
-
-pub more_zeros : (n : ℕ) (old new : List Bool) → old ≡ replicate n false → new ≡ old ++ false ∷ [] → new ≡ replicate (n + 1) false
-more_zeros n old new eo en = en ∙ (ap (λ bits. bits ++ false ∷ []) eo ∙ replicate-append-replicate n 1 false)
+use Rattle.tetra_audit.specs.Verdicts.{first_of, field_tests, field_why, plain_tests}
+use Rattle.tetra_audit.proofs.Codes.{laws_of}
 
 -- the length of a field
 pub length_there : (field : FrontField) (name : FieldName) (soft : List ℤ) → field.name ≡ name → field.soft ≡ Some soft → field_length field ≡ 3 + bytes_for (message_bits name) + 32 * certificate_rows name
@@ -30,45 +34,141 @@ pub length_not_yet : (field : FrontField) → field.soft ≡ None → field_leng
 unfolding field_length
 length_not_yet field f = rw f (omega arith)
 
--- the tests of a field
-pub why_coded : (field : FrontField) (soft : List ℤ) (code : Code) (bytes : List ℕ) → code_of field.name ≡ Some code → field.soft ≡ Some soft →
-    coded_why code.parity code.plan soft bytes ≡ field_why field bytes
-unfolding field_why field_reading coded_why
-why_coded field soft code bytes e f = rw (f, e) refl
+-- its values
+pub values_there : (field : FrontField) (soft : List ℤ) → field.soft ≡ Some soft → IsFrontField field → length soft ≡ (sizes field.name).values
+values_there field soft f is = subst (λ (values : Option (List ℤ)). MatchOption values (MayBeNotYet field.name) (λ v. length v ≡ (sizes field.name).values)) f is.soft
 
-pub why_plain : (field : FrontField) (soft : List ℤ) (bytes : List ℕ) → code_of field.name ≡ None → field.soft ≡ Some soft → plain_why (best_plain soft) Unchecked bytes ≡ field_why field bytes
-unfolding field_why field_reading plain_why raw_reading
-why_plain field soft bytes e f = rw (f, e) refl
+-- a field of a channel
+pub record IsCoded (rows : List ℕ) (name : FieldName) (values : Option (List ℤ)) : Type 0 where
+  pub channel : Channel
+  pub soft : List ℤ
+  pub of_channel : channel_of (reader name) ≡ Some channel
+  pub there : values ≡ Some soft
+  pub laws : HasPlanLaws channel (sizes name)
+  pub sent : length soft ≡ channel.plan.sent
+  pub reading : field_reading rows name values ≡ coded_reading channel soft
 
-tests_not_yet : (code : Option Code) (reading : Reading) (bytes : List ℕ) →
-    field_tests code None reading bytes ≡ pad_fault (length reading.bits) bytes ∷ bits_fault reading.bits bytes ∷ metric_fault reading.metric bytes ∷ mark_fault reading.mark bytes ∷ []
+-- a field whose bits come by no trellis
+pub record IsPlain (rows : List ℕ) (name : FieldName) (values : Option (List ℤ)) : Type 0 where
+  pub bits : length (field_reading rows name values).bits ≡ message_bits name
+  pub none : claimed_rows name values ≡ 0
+  pub tests : (reading : Reading) (bytes : List ℕ) → field_tests (channel_of (reader name)) values reading bytes ≡ plain_tests reading bytes
+  pub certified : AreCertified (channel_of (reader name)) values None
+  pub alone : (field_reading rows name values).potentials ≡ None
+  pub only : (potentials : Option (List (List ℕ))) → AreCertified (channel_of (reader name)) values potentials → potentials ≡ None
+
+-- a field that is not there yet
+tests_not_yet : (channel : Option Channel) (reading : Reading) (bytes : List ℕ) → field_tests channel None reading bytes ≡ plain_tests reading bytes
 tests_not_yet None reading bytes = refl
-tests_not_yet (Some code) reading bytes = refl
+tests_not_yet (Some channel) reading bytes = refl
 
-pub why_not_yet : (field : FrontField) (bytes : List ℕ) → field.soft ≡ None → plain_why (replicate (message_bits field.name) false) NotYet bytes ≡ field_why field bytes
-unfolding field_why field_reading plain_why not_yet
-why_not_yet field bytes f = rw f (sym (ap first_of (tests_not_yet (code_of field.name) (not_yet field.name) bytes)))
+nothing_certified : (channel : Option Channel) → AreCertified channel None None
+nothing_certified None = tt
+nothing_certified (Some channel) = tt
 
--- the one field without a code
-pub only_d72 : (name : FieldName) → IsAuditedName name → name ≢ Sync → name ≢ Half → name ≢ Hu → name ≢ Full → name ≡ D72
-only_d72 D72 a b c d e = refl
-only_d72 Sync a b c d e = absurd (b refl)
-only_d72 Half a b c d e = absurd (c refl)
-only_d72 Hu a b c d e = absurd (d refl)
-only_d72 Full a b c d e = absurd (e refl)
-only_d72 Aach a b c d e = absurd a
-only_d72 D48 a b c d e = absurd a
-only_d72 D24 a b c d e = absurd a
-only_d72 Whole a b c d e = absurd a
-only_d72 Single a b c d e = absurd a
+no_table : (channel : Option Channel) (potentials : Option (List (List ℕ))) → AreCertified channel None potentials → potentials ≡ None
+no_table channel None is = refl
+no_table None (Some table) is = absurd is
+no_table (Some channel) (Some table) is = absurd is
 
-pub audited_name : (field : FrontField) (soft : List ℤ) → field.soft ≡ Some soft → IsAudited field → IsAuditedName field.name
-audited_name field soft f a = subst (λ (values : Option (List ℤ)). IsAuditedAt field.name values) f a
+no_code : (soft : List ℤ) (potentials : Option (List (List ℕ))) → AreCertified None (Some soft) potentials → potentials ≡ None
+no_code soft None is = refl
+no_code soft (Some table) is = absurd is
 
--- its values and its bits
-pub values_there : (field : FrontField) (soft : List ℤ) → field.soft ≡ Some soft → IsFrontField field → length soft ≡ field_values field.name
-values_there field soft f is = subst (λ (values : Option (List ℤ)). MatchOption values (MayBeNotYet field.name) (λ v. length v ≡ field_values field.name)) f is.soft
+not_yet_is : (rows : List ℕ) (name : FieldName) → IsPlain rows name None
+unfolding not_yet
+not_yet_is rows name = record {
+  bits = length-replicate (message_bits name) false;
+  none = refl;
+  tests = λ reading bytes. tests_not_yet (channel_of (reader name)) reading bytes;
+  certified = nothing_certified (channel_of (reader name));
+  alone = refl;
+  only = λ potentials is. no_table (channel_of (reader name)) potentials is;
+}
+
+access_is : (rows : List ℕ) (soft : List ℤ) → IsPlain rows Aach (Some soft)
+unfolding access_reading best_access
+access_is rows soft = let first = best_is_first 14 (access_metric rows soft) in record {
+  bits = first.has_length;
+  none = refl;
+  tests = λ reading bytes. refl;
+  certified = tt;
+  alone = refl;
+  only = λ potentials is. no_code soft potentials is;
+}
 
 pub length-best_plain : (values : List ℤ) → length (best_plain values) ≡ length values
 unfolding best_plain
 length-best_plain values = let first = best_is_first (length values) (metric values) in first.has_length
+
+raw_is : (rows : List ℕ) (soft : List ℤ) → length soft ≡ 432 → IsPlain rows D72 (Some soft)
+unfolding raw_reading
+raw_is rows soft size = record {
+  bits = length-best_plain soft ∙ size;
+  none = refl;
+  tests = λ reading bytes. refl;
+  certified = tt;
+  alone = refl;
+  only = λ potentials is. no_code soft potentials is;
+}
+
+coded_is : (rows : List ℕ) (name : FieldName) (soft : List ℤ) (channel : Channel) → reader name ≡ Trellis channel → length soft ≡ channel.plan.sent → IsCoded rows name (Some soft)
+coded_is rows name soft channel e size =
+    let of_channel : channel_of (reader name) ≡ Some channel = ap channel_of e in
+    record {
+      channel = channel;
+      soft = soft;
+      of_channel = of_channel;
+      there = refl;
+      laws = laws_of name channel of_channel;
+      sent = size;
+      reading = ap (λ by_. read_by by_ rows soft) e;
+    }
+
+-- each audited field is one or the other
+by_cases : (rows : List ℕ) (name : FieldName) (values : Option (List ℤ)) → MatchOption values (MayBeNotYet name) (λ v. length v ≡ (sizes name).values) → IsAuditedAt name values
+    → IsPlain rows name values ⊎ IsCoded rows name values
+by_cases rows name None is audited = inl (not_yet_is rows name)
+by_cases rows Aach (Some soft) is audited = inl (access_is rows soft)
+by_cases rows Sync (Some soft) is audited = inr (coded_is rows Sync soft bsch refl is)
+by_cases rows Half (Some soft) is audited = inr (coded_is rows Half soft half refl is)
+by_cases rows Hu (Some soft) is audited = inr (coded_is rows Hu soft hu refl is)
+by_cases rows Full (Some soft) is audited = inr (coded_is rows Full soft full refl is)
+by_cases rows D72 (Some soft) is audited = inl (raw_is rows soft is)
+by_cases rows D48 (Some soft) is audited = absurd audited
+by_cases rows D24 (Some soft) is audited = absurd audited
+by_cases rows Whole (Some soft) is audited = absurd audited
+by_cases rows Single (Some soft) is audited = absurd audited
+
+pub plain_or_coded : (rows : List ℕ) (field : FrontField) → IsFrontField field → IsAudited field → IsPlain rows field.name field.soft ⊎ IsCoded rows field.name field.soft
+plain_or_coded rows field is audited = by_cases rows field.name field.soft is.soft audited
+
+-- the tests of a field of a channel, of one without a trellis, and of an access field
+pub why_coded : (rows : List ℕ) (field : FrontField) (soft : List ℤ) (channel : Channel) (bytes : List ℕ) → reader field.name ≡ Trellis channel → field.soft ≡ Some soft
+    → coded_why channel soft bytes ≡ field_why rows field bytes
+unfolding field_why coded_why
+why_coded rows field soft channel bytes e f = rw (f, e) refl
+
+pub why_plain : (rows : List ℕ) (field : FrontField) (bytes : List ℕ) → IsPlain rows field.name field.soft → plain_why (field_reading rows field.name field.soft) bytes ≡ field_why rows field bytes
+unfolding field_why plain_why
+why_plain rows field bytes plain = sym (ap first_of (plain.tests (field_reading rows field.name field.soft) bytes))
+
+pub why_not_yet : (rows : List ℕ) (field : FrontField) (bytes : List ℕ) → field.soft ≡ None
+    → plain_why (record { mark = NotYet; metric = 0; bits = replicate (message_bits field.name) false; potentials = None }) bytes ≡ field_why rows field bytes
+unfolding field_why plain_why not_yet
+why_not_yet rows field bytes f = rw f (sym (ap first_of (tests_not_yet (channel_of (reader field.name)) (not_yet field.name) bytes)))
+
+pub why_access : (rows : List ℕ) (field : FrontField) (soft : List ℤ) (bytes : List ℕ) → field.name ≡ Aach → field.soft ≡ Some soft
+    → plain_why (access_reading rows soft) bytes ≡ field_why rows field bytes
+unfolding field_why plain_why
+why_access rows field soft bytes e f = rw (f, e) refl
+
+pub why_raw : (rows : List ℕ) (field : FrontField) (soft : List ℤ) (bytes : List ℕ) → field.name ≡ D72 → field.soft ≡ Some soft
+    → plain_why (record { mark = Unchecked; metric = 0; bits = best_plain soft; potentials = None }) bytes ≡ field_why rows field bytes
+unfolding field_why plain_why raw_reading
+why_raw rows field soft bytes e f = rw (f, e) refl
+
+pub is_access : (rows : List ℕ) (soft : List ℤ) (message metric : ℕ) (bits : List Bool) → digits 14 message ≡ best_access rows soft → metric ≡ access_metric rows soft (digits 14 message) → bits ≡ digits 14 message
+    → ◌≡◌ {A = Reading} (record { mark = Unchecked; metric = metric; bits = bits; potentials = None }) (access_reading rows soft)
+unfolding access_reading
+is_access rows soft message metric bits best rate eb = rw (eb, rate, best) refl

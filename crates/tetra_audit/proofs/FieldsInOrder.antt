@@ -28,12 +28,12 @@ module _ (rows : Rows) (front : Front) (claim : List ℕ) where
   unfolding slot_verdict
   other_letter ne = let e : eqb (get_or claim 0 0) front.letter ≡ false = grind (arith, nat_tests) in rw e refl
 
-  pub first_field : get_or claim 0 0 ≡ front.letter → slot_verdict rows front claim ≡ fields_verdict 0 front.fields.items (drop 1 claim)
+  pub first_field : get_or claim 0 0 ≡ front.letter → slot_verdict rows front claim ≡ fields_verdict rows.0 0 front.fields.items (drop 1 claim)
   unfolding slot_verdict
   first_field is = let e : eqb (get_or claim 0 0) front.letter ≡ true = grind (arith, nat_tests) in rw e refl
 
 -- the field numbered i and those behind it
-module _ (fields : List FrontField) (claim : List ℕ) (i at end : ℕ) (field : FrontField) (inside : i < length fields) (is : field ≡ get_or fields i field) (next : end ≡ at + field_length field) where
+module _ (rows : List ℕ) (fields : List FrontField) (claim : List ℕ) (i at end : ℕ) (field : FrontField) (inside : i < length fields) (is : field ≡ get_or fields i field) (next : end ≡ at + field_length field) where
   split : drop i fields ≡ field ∷ drop (i + 1) fields
   split = let more : suc i ≡ i + 1 = omega arith in drop-cons fields i field inside ∙ (ap (λ f. f ∷ drop (suc i) fields) (sym is) ∙ ap (λ n. field ∷ drop n fields) more)
 
@@ -43,22 +43,22 @@ module _ (fields : List FrontField) (claim : List ℕ) (i at end : ℕ) (field :
   behind : drop (field_length field) (drop at claim) ≡ drop end claim
   behind = drop-drop (field_length field) at claim ∙ ap (λ n. drop n claim) (sym next)
 
-  whole : fields_verdict i (drop i fields) (drop at claim) ≡ verdict_by i (field_why field (take (end - at) (drop at claim))) (fields_verdict (i + 1) (drop (i + 1) fields) (drop end claim))
+  whole : fields_verdict rows i (drop i fields) (drop at claim) ≡ verdict_by i (field_why rows field (take (end - at) (drop at claim))) (fields_verdict rows (i + 1) (drop (i + 1) fields) (drop end claim))
   unfolding fields_verdict
   whole =
-      ap (λ fs. fields_verdict i fs (drop at claim)) split
-      ∙ (ap (λ part. verdict_by i (field_why field part) (fields_verdict (i + 1) (drop (i + 1) fields) (drop (field_length field) (drop at claim)))) (sym here)
-      ∙ ap (λ rest. verdict_by i (field_why field (take (end - at) (drop at claim))) (fields_verdict (i + 1) (drop (i + 1) fields) rest)) behind)
+      ap (λ fs. fields_verdict rows i fs (drop at claim)) split
+      ∙ (ap (λ part. verdict_by i (field_why rows field part) (fields_verdict rows (i + 1) (drop (i + 1) fields) (drop (field_length field) (drop at claim)))) (sym here)
+      ∙ ap (λ rest. verdict_by i (field_why rows field (take (end - at) (drop at claim))) (fields_verdict rows (i + 1) (drop (i + 1) fields) rest)) behind)
 
-  pub goes_on : None ≡ field_why field (take (end - at) (drop at claim)) → fields_verdict i (drop i fields) (drop at claim) ≡ fields_verdict (i + 1) (drop (i + 1) fields) (drop end claim)
-  goes_on none = whole ∙ ap (λ why. verdict_by i why (fields_verdict (i + 1) (drop (i + 1) fields) (drop end claim))) (sym none)
+  pub goes_on : None ≡ field_why rows field (take (end - at) (drop at claim)) → fields_verdict rows i (drop i fields) (drop at claim) ≡ fields_verdict rows (i + 1) (drop (i + 1) fields) (drop end claim)
+  goes_on none = whole ∙ ap (λ why. verdict_by i why (fields_verdict rows (i + 1) (drop (i + 1) fields) (drop end claim))) (sym none)
 
-  pub stops : (why : FieldWhy) → Some why ≡ field_why field (take (end - at) (drop at claim)) → fields_verdict i (drop i fields) (drop at claim) ≡ Field i why
-  stops why some = whole ∙ ap (λ w. verdict_by i w (fields_verdict (i + 1) (drop (i + 1) fields) (drop end claim))) (sym some)
+  pub stops : (why : FieldWhy) → Some why ≡ field_why rows field (take (end - at) (drop at claim)) → fields_verdict rows i (drop i fields) (drop at claim) ≡ Field i why
+  stops why some = whole ∙ ap (λ w. verdict_by i w (fields_verdict rows (i + 1) (drop (i + 1) fields) (drop end claim))) (sym some)
 
-pub none_left : (fields : List FrontField) (claim : List ℕ) (i at : ℕ) → length fields ≤ i → fields_verdict i (drop i fields) (drop at claim) ≡ Agrees
+pub none_left : (rows : List ℕ) (fields : List FrontField) (claim : List ℕ) (i at : ℕ) → length fields ≤ i → fields_verdict rows i (drop i fields) (drop at claim) ≡ Agrees
 unfolding fields_verdict
-none_left fields claim i at past = ap (λ fs. fields_verdict i fs (drop at claim)) (drop_all i fields past)
+none_left rows fields claim i at past = ap (λ fs. fields_verdict rows i fs (drop at claim)) (drop_all i fields past)
 
 -- how long a claim is
 most_of : FieldName → ℕ

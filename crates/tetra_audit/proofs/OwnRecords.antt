@@ -1,61 +1,100 @@
 -- The record that is defined for a slot agrees.
-use Rattle.std.proofs.Common.{◌≡◌, ℕ, ◌+◌, ◌<◌, ◌≤◌, IsTrue, Bool, List, [], ◌∷◌, ◌++◌, length, length-append, sum_by, ℤ, Some, arith, refl, ap, ◌∙◌}
+use Prim.Native.Nat.{suc}
+use Rattle.std.proofs.Common.{◌≡◌, inl, inr, ℕ, ◌+◌, ◌*◌, ◌<◌, ◌≤◌, Bool, List, [], ◌∷◌, ◌++◌, length, length-append, map, sum_by, ℤ, Option, Some, None, arith, refl, sym, ap, subst, le_trans, ◌∙◌}
+use Rattle.std.proofs.lemmas.List.Elements.{All-map, All-weaker}
 use Rattle.std.proofs.lemmas.List.Sums.{sum_by-cons}
+use Rattle.std.proofs.lemmas.Simd.{map-map}
+use Rattle.std.specs.List.{All, flat_map}
+use Rattle.std.specs.Prelude.{IfSome, nat_abs}
 use Rattle.tetra_bits.specs.Numbered.{get_or-numbered}
 use Rattle.tetra_bits.specs.Packed.{packed}
-use Rattle.tetra_bits.specs.Plain.{best_plain}
-use Rattle.tetra_bits.specs.Readings.{entry}
+use Rattle.tetra_bits.specs.Readings.{entry, mark_byte}
 use Rattle.tetra_bits.specs.Soft.{AllSoft}
 use Rattle.tetra_bits.specs.declared.reading.Mark.{Mark}
 use Rattle.tetra_bits.specs.declared.reading.Mark.TheVariants.{Good, Bad, Unchecked, NotYet}
-use Rattle.tetra_channels.specs.Fields.{coded_reading, raw_reading, mark_of}
-use Rattle.tetra_puncture.proofs.OwnCosts.{costs_to_go_are_accepted}
-use Rattle.tetra_puncture.proofs.Shapes.{length-potentials_of, length-potential_row}
-use Rattle.tetra_puncture.specs.Best.{best_of, message_metric}
-use Rattle.tetra_puncture.specs.Places.{two_thirds, IsTwoThirds}
-use Rattle.tetra_puncture.specs.Plan.{CodePlan}
+use Rattle.tetra_bits.specs.declared.reading.Reading.{Reading}
+use Rattle.tetra_bits.specs.declared.soft.TheConstants.{SOFT_MAX}
+use Rattle.tetra_bursts.specs.Fields.{FieldsHaveSizes}
+use Rattle.tetra_channels.specs.Channels.{Channel}
+use Rattle.tetra_channels.specs.Fields.{coded_reading}
+use Rattle.tetra_puncture.specs.Plan.{CodePlan, HasSizes, PlacesRise, PlacesLie}
 use Rattle.tetra_puncture.specs.Spread.{spread_values}
 use Rattle.tetra_puncture.specs.ToGo.{potentials_of, potential_row}
-use Rattle.tetra_puncture.specs.TwoThirdsLaws.{two_thirds_sizes, two_thirds_rise, two_thirds_lie}
-use Rattle.tetra_records.specs.Readings.{mark_byte, two_bytes, table_bytes, field_bytes, reading_spelling}
+use Rattle.tetra_puncture.specs.lemmas.OwnCosts.{costs_to_go_are_accepted}
+use Rattle.tetra_puncture.specs.lemmas.Shapes.{length-potentials_of, length-potential_row}
+use Rattle.tetra_records.specs.Readings.{two_bytes, certificate_bytes, field_bytes, reading_spelling}
 use Rattle.tetra_rm.specs.declared.table.Rows.{Rows}
-use Rattle.tetra_session.proofs.FieldLemmas.{only, full_size, full_soft, raw_size, front_formed, full_bounded}
-use Rattle.tetra_session.specs.Built.{is_built_letter}
 use Rattle.tetra_session.specs.Fronts.{IsFrontField, IsFront, IsBounded}
-use Rattle.tetra_session.specs.Heard.{letter_heard, full_values, raw_values, fields_heard, fields_read, slot_front, slot_reading}
+use Rattle.tetra_session.specs.Heard.{letter_heard, place_values, field_heard, fields_heard, slot_front, slot_reading}
+use Rattle.tetra_session.specs.Readers.{reader, channel_of, field_reading, read_field, read_front}
+use Rattle.tetra_session.specs.Spots.{places_of, FitsSpot, ArePlaces}
 use Rattle.tetra_session.specs.declared.front.FrontField.{FrontField}
 use Rattle.tetra_session.specs.declared.front.Front.{Front}
-use Rattle.tetra_settings.specs.Slots.{byte_of}
+use Rattle.tetra_session.specs.declared.spots.Place.{Place}
+use Rattle.tetra_session.specs.lemmas.Fields.{field_bounded}
+use Rattle.tetra_session.specs.lemmas.Places.{are_places}
+use Rattle.tetra_session.specs.lemmas.Values.{place_size, place_within}
+use Rattle.tetra_settings.specs.Slots.{byte_of, mode_of}
 use Rattle.tetra_settings.specs.declared.readings.Field.{Field}
-use Rattle.tetra_settings.specs.declared.readings.FieldName.TheVariants.{Full, D72}
 use Rattle.tetra_settings.specs.declared.slots.Letter.{Letter}
 use Rattle.tetra_settings.specs.declared.slots.Letter.TheVariants.{F, H, S, T, P, Q, C}
+use Rattle.tetra_settings.specs.declared.types.Dir.{Dir}
 use Rattle.tetra_settings.specs.declared.types.Form.TheVariants.{Audit}
-use Rattle.tetra_audit.specs.Agreement.{IsCertificate, IsRight, AreBytes, OwnRecordsAgree}
-use Rattle.tetra_audit.specs.Fields.{IsAudited, field_reading, field_length, claim_length}
+use Rattle.tetra_audit.specs.Agreement.{IsCertificate, AreCertified, IsRight, AreRight, AreBytes, OwnRecordsAgree}
+use Rattle.tetra_audit.specs.Fields.{IsAudited, field_length, claim_length}
 use Rattle.tetra_audit.specs.Verdicts.{slot_verdict}
 use Rattle.tetra_audit.specs.declared.verdict.SlotVerdict.TheVariants.{Agrees}
+use Rattle.tetra_audit.proofs.FieldCases.{IsPlain, IsCoded, plain_or_coded}
 use Rattle.tetra_audit.proofs.RightClaims.{agrees_exactly}
 use Rattle.tetra_audit.proofs.RightFields.{right_length}
 use Rattle.tetra_audit.proofs.SmallBytes.{first_byte, both_bytes, no_byte, number_bytes, packed_bytes, table_are_bytes}
 
-abbrev plan : CodePlan
-plan = two_thirds 288 432
+-- the costs to go are a certificate
+certificate : (plan : CodePlan) (values : List ℤ) → HasSizes plan → PlacesRise plan → PlacesLie plan → length values ≡ plan.sent → IsCertificate plan values (potentials_of plan values)
+unfolding potentials_of
+certificate plan values sizes rise lie sent = record {
+  rows = length-potentials_of plan values;
+  states = λ k d within.
+      let inside : k < plan.steps + 1 = omega (arith, length-potentials_of plan values) in
+      ap length (get_or-numbered (potential_row plan (spread_values plan values)) (plan.steps + 1) k d inside) ∙ length-potential_row plan (spread_values plan values) (k + 1);
+  accepted = costs_to_go_are_accepted plan values sizes rise lie sent;
+}
 
-sound : IsTwoThirds 288 432
-sound = (refl, omega arith, omega arith, refl)
+-- the defined reading of a field is right
+module _ (rows : List ℕ) (field : FrontField) where
+  plain_certified : IsPlain rows field.name field.soft → AreCertified (channel_of (reader field.name)) field.soft (field_reading rows field.name field.soft).potentials
+  plain_certified plain = subst (λ (p : Option (List (List ℕ))). AreCertified (channel_of (reader field.name)) field.soft p) (sym plain.alone) plain.certified
+
+  coded_certified : IsCoded rows field.name field.soft → AreCertified (channel_of (reader field.name)) field.soft (field_reading rows field.name field.soft).potentials
+  unfolding coded_reading
+  coded_certified coded =
+      let costs : List (List ℕ) = potentials_of coded.channel.plan coded.soft in
+      let there : (field_reading rows field.name field.soft).potentials ≡ Some costs = ap (λ (r : Reading). r.potentials) coded.reading in
+      subst (λ (p : Option (List (List ℕ))). AreCertified (channel_of (reader field.name)) field.soft p) (sym there)
+      (subst (λ (v : Option (List ℤ)). AreCertified (channel_of (reader field.name)) v (Some costs)) (sym coded.there)
+      (subst (λ (c : Option Channel). AreCertified c (Some coded.soft) (Some costs)) (sym coded.of_channel)
+      (certificate coded.channel.plan coded.soft coded.laws.sizes coded.laws.rise coded.laws.lie coded.sent)))
+
+  own_right : IsFrontField field → IsAudited field → IsRight rows field (read_field rows field)
+  unfolding read_field
+  own_right is audited = record {
+    name = refl;
+    mark = refl;
+    metric = refl;
+    bits = refl;
+    potentials = elim (plain_or_coded rows field is audited) [ inl plain ↦ plain_certified plain | inr coded ↦ coded_certified coded ];
+  }
+
+-- numbers that fit two bytes
+certificate_are_bytes : (potentials : Option (List (List ℕ))) → IfSome potentials (λ table. (t s : ℕ) → entry table t s ≤ 65535) → AreBytes (certificate_bytes Audit potentials)
+certificate_are_bytes None small = no_byte
+certificate_are_bytes (Some table) small = table_are_bytes table small
 
 mark_small : (mark : Mark) → mark_byte mark < 256
 mark_small Good = omega arith
 mark_small Bad = omega arith
 mark_small Unchecked = omega arith
 mark_small NotYet = omega arith
-
--- a field whose numbers fit two bytes
-spelled_bytes : (mark : Mark) (metric : ℕ) (bits : List Bool) (table : List ℕ) → metric ≤ 65535 → AreBytes table → AreBytes ((mark_byte mark ∷ two_bytes metric) ++ packed bits ++ table)
-spelled_bytes mark metric bits table small rest =
-    first_byte (mark_byte mark) (two_bytes metric ++ packed bits ++ table) (mark_small mark)
-    (both_bytes (two_bytes metric) (packed bits ++ table) (number_bytes metric small) (both_bytes (packed bits) table (packed_bytes bits) rest))
 
 letter_small : (letter : Letter) → byte_of letter < 256
 letter_small F = omega arith
@@ -66,88 +105,109 @@ letter_small P = omega arith
 letter_small Q = omega arith
 letter_small C = omega arith
 
--- the record of one field that is right and whose bytes are bytes
-module _ (rows : Rows) (letter : Letter) (field : FrontField) (claimed : Field) where
-  unfoldable pub front : Front
-  front = record { letter = byte_of letter; fields = record { items = field ∷ [] } }
+all_small : (top : ℕ) (potentials : Option (List (List ℕ))) → top * 432 ≤ 65535 → IfSome potentials (λ table. (t s : ℕ) → entry table t s ≤ top * 432) → IfSome potentials (λ table. (t s : ℕ) → entry table t s ≤ 65535)
+all_small top None few small = tt
+all_small top (Some table) few small = λ t s. le_trans (small t s) few
 
-  unfoldable pub claim : List ℕ
-  claim = reading_spelling Audit (record { letter = byte_of letter; fields = record { items = claimed ∷ [] } })
+-- the bytes of a field whose numbers are so great
+field_are_bytes : (top : ℕ) (field : Field) → top * 432 ≤ 65535 → IsBounded top field → AreBytes (field_bytes Audit field)
+unfolding field_bytes
+field_are_bytes top field few small =
+    let reading : Reading = field.reading in
+    let behind : List ℕ = certificate_bytes Audit reading.potentials in
+    first_byte (mark_byte reading.mark) (two_bytes reading.metric ++ packed reading.bits ++ behind) (mark_small reading.mark)
+    (both_bytes (two_bytes reading.metric) (packed reading.bits ++ behind) (number_bytes reading.metric (le_trans small.metric few))
+    (both_bytes (packed reading.bits) behind (packed_bytes reading.bits) (certificate_are_bytes reading.potentials (all_small top reading.potentials few small.potentials))))
 
-  module _ (is : IsFront front) (here : IsFrontField field) (audited : IsAudited field) (right : IsRight field claimed) (small : AreBytes (field_bytes Audit claimed)) where
-    long : length claim ≡ claim_length front
-    unfolding claim front reading_spelling claim_length
-    long =
-        let bytes : length (field_bytes Audit claimed) ≡ field_length field = right_length field claimed right here audited in
-        let sum : sum_by field_length (field ∷ []) ≡ field_length field + sum_by field_length [] = sum_by-cons field_length field [] in
-        let all : length (field_bytes Audit claimed ++ []) ≡ length (field_bytes Audit claimed) + 0 = length-append (field_bytes Audit claimed) [] in
-        omega (arith, bytes, sum, all)
+-- the fields of a front, read
+module _ (rows : List ℕ) where
+  rights : (fields : List FrontField) → All IsFrontField fields → All IsAudited fields → AreRight rows fields (map (read_field rows) fields)
+  rights [] is audited = tt
+  rights (field ∷ fields) is audited =
+      (own_right rows field (is 0 field (omega arith)) (audited 0 field (omega arith)), rights fields (λ k d h. is (suc k) d (omega arith)) (λ k d h. audited (suc k) d (omega arith)))
 
-    bytes : AreBytes claim
-    unfolding claim reading_spelling
-    bytes = first_byte (byte_of letter) (field_bytes Audit claimed ++ []) (letter_small letter) (both_bytes (field_bytes Audit claimed) [] small no_byte)
+  fields_long : (fields : List FrontField) → All IsFrontField fields → All IsAudited fields → length (flat_map (field_bytes Audit) (map (read_field rows) fields)) ≡ sum_by field_length fields
+  fields_long [] is audited = refl
+  fields_long (field ∷ fields) is audited =
+      let here : IsFrontField field = is 0 field (omega arith) in
+      let seen : IsAudited field = audited 0 field (omega arith) in
+      let first : length (field_bytes Audit (read_field rows field)) ≡ field_length field = right_length rows field (read_field rows field) (own_right rows field here seen) here seen in
+      let rest : length (flat_map (field_bytes Audit) (map (read_field rows) fields)) ≡ sum_by field_length fields = fields_long fields (λ k d h. is (suc k) d (omega arith)) (λ k d h. audited (suc k) d (omega arith)) in
+      omega (arith, first, rest, sum_by-cons field_length field fields, length-append (field_bytes Audit (read_field rows field)) (flat_map (field_bytes Audit) (map (read_field rows) fields)))
 
-    pub agrees : (length claim ≡ claim_length front) × (slot_verdict rows front claim ≡ Agrees)
-    unfolding claim front
-    agrees = (long, (agrees_exactly rows front claim is (only IsAudited field audited) bytes long).1 (record { claimed = claimed ∷ []; right = (right, tt); spelled = refl }))
+fields_are_bytes : (top : ℕ) (fields : List Field) → top * 432 ≤ 65535 → All (IsBounded top) fields → AreBytes (flat_map (field_bytes Audit) fields)
+fields_are_bytes top [] few small = no_byte
+fields_are_bytes top (field ∷ fields) few small =
+    both_bytes (field_bytes Audit field) (flat_map (field_bytes Audit) fields) (field_are_bytes top field few (small 0 field (omega arith))) (fields_are_bytes top fields few (λ k d h. small (suc k) d (omega arith)))
 
--- SCH/F
-module _ (values : List ℤ) (soft : AllSoft values) (size : length values ≡ 432) where
-  certificate : IsCertificate (record { parity = 16; plan = plan }) values (potentials_of plan values)
-  unfolding potentials_of
-  certificate = record {
-    rows = length-potentials_of plan values;
-    states = λ k d within.
-        let inside : k < 289 = omega (arith, length-potentials_of plan values) in
-        ap length (get_or-numbered (potential_row plan (spread_values plan values)) 289 k d inside) ∙ length-potential_row plan (spread_values plan values) (k + 1);
-    accepted = costs_to_go_are_accepted plan values (two_thirds_sizes 288 432 sound) (two_thirds_rise 288 432 sound) (two_thirds_lie 288 432 sound) size;
+-- the record of a front
+module _ (rows : Rows) (front : Front) (top : ℕ) (few : top * 432 ≤ 65535) (is : IsFront front) (audited : All IsAudited front.fields.items)
+    (bounded : All (IsBounded top) (map (read_field rows.0) front.fields.items)) (letter : front.letter < 256) where
+  unfoldable claim : List ℕ
+  claim = reading_spelling Audit (read_front rows.0 front)
+
+  long : length claim ≡ claim_length front
+  unfolding claim reading_spelling read_front claim_length
+  long = omega (arith, fields_long rows.0 front.fields.items is.fields audited)
+
+  bytes : AreBytes claim
+  unfolding claim reading_spelling read_front
+  bytes = first_byte front.letter _ letter (fields_are_bytes top (map (read_field rows.0) front.fields.items) few bounded)
+
+  pub agrees : (length (reading_spelling Audit (read_front rows.0 front)) ≡ claim_length front) × (slot_verdict rows front (reading_spelling Audit (read_front rows.0 front)) ≡ Agrees)
+  unfolding claim read_front
+  agrees = (
+    long,
+    (agrees_exactly rows front claim is audited bytes long).1 (record {
+      claimed = map (read_field rows.0) front.fields.items;
+      right = rights rows.0 front.fields.items is.fields audited;
+      spelled = refl;
+    }),
+  )
+
+-- the front of a slot
+module _ (law : FieldsHaveSizes) (rows : List ℕ) (dir : Dir) (key : List Bool) (soft : List ℤ) (size : length soft ≡ 510) (all : AllSoft soft) where
+  place_formed : (place : Place) → FitsSpot dir place → IsFrontField (field_heard dir key soft place)
+  unfolding field_heard
+  place_formed place fit = record { soft = place_size law dir key soft place fit size }
+
+  place_audited : (place : Place) → FitsSpot dir place → IsAudited (field_heard dir key soft place)
+  unfolding field_heard
+  place_audited place fit = fit.built
+
+  place_bounded : (place : Place) → FitsSpot dir place → IsBounded (nat_abs SOFT_MAX) (read_field rows (field_heard dir key soft place))
+  unfolding field_heard read_field
+  place_bounded place fit =
+      field_bounded (nat_abs SOFT_MAX) place.name rows (place_values dir key soft place) fit.built (place_size law dir key soft place fit size) (place_within (nat_abs SOFT_MAX) dir key soft place all)
+
+  names : (places : List Place) → map (λ field. field.name) (map (field_heard dir key soft) places) ≡ map (λ place. place.name) places
+  unfolding field_heard
+  names places = map-map (λ field. field.name) (field_heard dir key soft) places
+
+  formed : (letter : Letter) (places : List Place) → ArePlaces dir letter places → IsFront (record { letter = byte_of letter; fields = record { items = map (field_heard dir key soft) places } })
+  formed letter places are = record {
+    row = rw (names places) are.row;
+    fields = All-map IsFrontField (field_heard dir key soft) places (All-weaker (FitsSpot dir) (λ place. IsFrontField (field_heard dir key soft place)) place_formed places are.fit);
   }
 
-  full_right : IsRight (record { name = Full; soft = Some values }) (record { name = Full; reading = coded_reading 16 plan values })
-  unfolding field_reading coded_reading
-  full_right = record { name = refl; mark = refl; metric = refl; bits = refl; potentials = certificate }
+  all_audited : (letter : Letter) (places : List Place) → ArePlaces dir letter places → All IsAudited (map (field_heard dir key soft) places)
+  all_audited letter places are = All-map IsAudited (field_heard dir key soft) places (All-weaker (FitsSpot dir) (λ place. IsAudited (field_heard dir key soft place)) place_audited places are.fit)
 
-  full_bytes : AreBytes (field_bytes Audit (record { name = Full; reading = coded_reading 16 plan values }))
-  unfolding field_bytes coded_reading
-  full_bytes =
-      let bounded : IsBounded (record { name = Full; reading = coded_reading 16 plan values }) = full_bounded values soft size in
-      let metric : message_metric plan values (best_of plan values) ≤ 54864 = bounded.metric in
-      let numbers : (t s : ℕ) → entry (potentials_of plan values) t s ≤ 54864 = bounded.potentials in
-      spelled_bytes (mark_of 16 (best_of plan values)) (message_metric plan values (best_of plan values)) (best_of plan values) (table_bytes (potentials_of plan values)) (omega arith)
-      (table_are_bytes (potentials_of plan values) (λ t s. omega (arith, numbers t s)))
+  all_bounded : (letter : Letter) (places : List Place) → ArePlaces dir letter places → All (IsBounded (nat_abs SOFT_MAX)) (map (read_field rows) (map (field_heard dir key soft) places))
+  all_bounded letter places are =
+      All-map (IsBounded (nat_abs SOFT_MAX)) (read_field rows) (map (field_heard dir key soft) places)
+      (All-map (λ field. IsBounded (nat_abs SOFT_MAX) (read_field rows field)) (field_heard dir key soft) places
+      (All-weaker (FitsSpot dir) (λ place. IsBounded (nat_abs SOFT_MAX) (read_field rows (field_heard dir key soft place))) place_bounded places are.fit))
 
--- unprotected data
-module _ (values : List ℤ) where
-  raw_right : IsRight (record { name = D72; soft = Some values }) (record { name = D72; reading = raw_reading values })
-  unfolding field_reading raw_reading
-  raw_right = record { name = refl; mark = refl; metric = refl; bits = refl; potentials = tt }
-
-  raw_bytes : AreBytes (field_bytes Audit (record { name = D72; reading = raw_reading values }))
-  unfolding field_bytes raw_reading
-  raw_bytes = spelled_bytes Unchecked 0 (best_plain values) [] (omega arith) no_byte
-
-own_agrees : (rows : Rows) (letter : Letter) (key : List Bool) (soft : List ℤ) → AllSoft soft → IsTrue (is_built_letter (byte_of letter)) →
-    let front : Front = record { letter = byte_of letter; fields = record { items = fields_heard letter key soft } } in
-    let claim : List ℕ = reading_spelling Audit (record { letter = byte_of letter; fields = record { items = fields_read letter key soft } }) in
-    (length claim ≡ claim_length front) × (slot_verdict rows front claim ≡ Agrees)
-unfolding front claim
-own_agrees rows F key soft all built =
-    let values : List ℤ = full_values key soft in
-    let size : length values ≡ 432 = full_size key soft in
-    let many : AllSoft values = full_soft key soft all in
-    agrees rows F (record { name = Full; soft = Some values }) (record { name = Full; reading = coded_reading 16 plan values })
-    (front_formed F 70 key soft (record { items = fields_heard F key soft }) built refl refl) (record { soft = size }) tt (full_right values many size) (full_bytes values many size)
-own_agrees rows T key soft all built =
-    let values : List ℤ = raw_values key soft in
-    let size : length values ≡ 432 = raw_size key soft in
-    agrees rows T (record { name = D72; soft = Some values }) (record { name = D72; reading = raw_reading values })
-    (front_formed T 84 key soft (record { items = fields_heard T key soft }) built refl refl) (record { soft = size }) tt (raw_right values) (raw_bytes values)
-own_agrees rows H key soft all built = absurd (cc)
-own_agrees rows S key soft all built = absurd (cc)
-own_agrees rows P key soft all built = absurd (cc)
-own_agrees rows Q key soft all built = absurd (cc)
-own_agrees rows C key soft all built = absurd (cc)
-
-pub own_records_agree : OwnRecordsAgree
-unfolding slot_front slot_reading
-own_records_agree rows settings history soft all built = own_agrees rows (letter_heard settings (length history) soft) _ soft all built
+pub own_records_agree : FieldsHaveSizes → OwnRecordsAgree
+unfolding slot_front slot_reading fields_heard
+own_records_agree law settings history soft valid built size all letter =
+    let t : ℕ = length history in
+    let heard : Letter = letter_heard settings t soft in
+    let places : List Place = places_of settings.dir heard (mode_of settings t) in
+    let are : ArePlaces settings.dir heard places = are_places settings t soft valid built letter in
+    agrees settings.rows (slot_front settings history soft) (nat_abs SOFT_MAX) (omega arith)
+    (formed law settings.rows.0 settings.dir _ soft size all heard places are)
+    (all_audited law settings.rows.0 settings.dir _ soft size all heard places are)
+    (all_bounded law settings.rows.0 settings.dir _ soft size all heard places are)
+    (letter_small heard)

@@ -9,15 +9,17 @@ use Rattle.std.specs.List.{list_any, range_with_len}
 use Rattle.std.specs.Str.{bytes_eq}
 use Rattle.tetra_bits.specs.Packed.{bytes_for, packed, bit_in, HasPad, unpacked_bit}
 use Rattle.tetra_bits.specs.Numbered.{numbered, length-numbered}
-use Rattle.tetra_bits.proofs.Packing_lists.{packed_apart, packed_pads, packed_taken, pads_clean}
+use Rattle.tetra_bits.specs.lemmas.Packing_lists.{packed_apart, packed_pads, packed_taken, pads_clean}
 use Rattle.tetra_bits.specs.declared.reading.Mark.{Mark}
+use Rattle.tetra_bits.specs.declared.reading.Reading.{Reading}
 use Rattle.tetra_cert.specs.Verdicts.{verdict_of}
 use Rattle.tetra_cert.specs.declared.verdict.Verdict.TheVariants.{Accepted, Refused}
-use Rattle.tetra_channels.specs.Fields.{coded_reading, mark_of}
+use Rattle.tetra_channels.specs.Channels.{Channel}
+use Rattle.tetra_channels.specs.Fields.{coded_reading}
+use Rattle.tetra_parity.specs.Marks.{mark_of}
 use Rattle.tetra_puncture.specs.Best.{best_of, message_metric}
-use Rattle.tetra_puncture.specs.Plan.{CodePlan}
 use Rattle.tetra_puncture.specs.declared.rule.Rule.{Rule}
-use Rattle.tetra_records.specs.Readings.{mark_byte}
+use Rattle.tetra_bits.specs.Readings.{mark_byte}
 use Rattle.tetra_audit.specs.Claims.{claimed_bits, claimed_table, has_pad, mark_part, metric_part, bits_part, table_part}
 use Rattle.tetra_audit.specs.Parts.{head_why, plain_why, coded_why}
 use Rattle.tetra_audit.specs.Verdicts.{pad_fault, bits_fault, cert_fault, metric_fault, mark_fault}
@@ -121,81 +123,81 @@ claimed_is part len message small size long e =
     (e ∙ sym (packed_taken part len small size (pads_clean part len none)))
 
 -- the tests of a field whose bits come by no trellis, where its bits stand in the n bytes behind the third
-module _ (bits : List Bool) (mark : Mark) (bytes : List ℕ) (n len : ℕ) (en : n ≡ bytes_for (length bits)) (el : len ≡ length bits) where
-  part_is : take n (drop 3 bytes) ≡ bits_part (length bits) bytes
+module _ (reading : Reading) (bytes : List ℕ) (n len : ℕ) (en : n ≡ bytes_for (length reading.bits)) (el : len ≡ length reading.bits) where
+  part_is : take n (drop 3 bytes) ≡ bits_part (length reading.bits) bytes
   part_is = ap (λ k. take k (drop 3 bytes)) en
 
-  pad_there : HasPad (take n (drop 3 bytes)) len → HasPad (bits_part (length bits) bytes) (length bits)
-  pad_there h = subst (λ (k : ℕ). HasPad (bits_part (length bits) bytes) k) el (subst (λ (part : List ℕ). HasPad part len) part_is h)
+  pad_there : HasPad (take n (drop 3 bytes)) len → HasPad (bits_part (length reading.bits) bytes) (length reading.bits)
+  pad_there h = subst (λ (k : ℕ). HasPad (bits_part (length reading.bits) bytes) k) el (subst (λ (part : List ℕ). HasPad part len) part_is h)
 
-  pad_here : HasPad (bits_part (length bits) bytes) (length bits) → HasPad (take n (drop 3 bytes)) len
-  pad_here h = subst (λ (k : ℕ). HasPad (take n (drop 3 bytes)) k) (sym el) (subst (λ (part : List ℕ). HasPad part (length bits)) (sym part_is) h)
+  pad_here : HasPad (bits_part (length reading.bits) bytes) (length reading.bits) → HasPad (take n (drop 3 bytes)) len
+  pad_here h = subst (λ (k : ℕ). HasPad (take n (drop 3 bytes)) k) (sym el) (subst (λ (part : List ℕ). HasPad part (length reading.bits)) (sym part_is) h)
 
-  pub plain_pad : HasPad (take n (drop 3 bytes)) len → plain_why bits mark bytes ≡ Some Pad
+  pub plain_pad : HasPad (take n (drop 3 bytes)) len → plain_why reading bytes ≡ Some Pad
   unfolding plain_why pad_fault
-  plain_pad h = let e : has_pad (bits_part (length bits) bytes) (length bits) ≡ true = pad_found (bits_part (length bits) bytes) (length bits) (pad_there h) in rw e refl
+  plain_pad h = let e : has_pad (bits_part (length reading.bits) bytes) (length reading.bits) ≡ true = pad_found (bits_part (length reading.bits) bytes) (length reading.bits) (pad_there h) in rw e refl
 
-  pub plain_bits : (HasPad (take n (drop 3 bytes)) len → ⊥) → take n (drop 3 bytes) ≢ packed bits → plain_why bits mark bytes ≡ Some Bits
+  pub plain_bits : (HasPad (take n (drop 3 bytes)) len → ⊥) → take n (drop 3 bytes) ≢ packed reading.bits → plain_why reading bytes ≡ Some Bits
   unfolding plain_why pad_fault bits_fault
   plain_bits none differ =
-      let e : has_pad (bits_part (length bits) bytes) (length bits) ≡ false = no_pad_found (bits_part (length bits) bytes) (length bits) (λ h. none (pad_here h)) in
-      let f : bytes_eq (bits_part (length bits) bytes) (packed bits) ≡ false = not_same (bits_part (length bits) bytes) (packed bits) (λ g. differ (part_is ∙ g)) in
+      let e : has_pad (bits_part (length reading.bits) bytes) (length reading.bits) ≡ false = no_pad_found (bits_part (length reading.bits) bytes) (length reading.bits) (λ h. none (pad_here h)) in
+      let f : bytes_eq (bits_part (length reading.bits) bytes) (packed reading.bits) ≡ false = not_same (bits_part (length reading.bits) bytes) (packed reading.bits) (λ g. differ (part_is ∙ g)) in
       rw (e, f) refl
 
-  pub plain_head : (HasPad (take n (drop 3 bytes)) len → ⊥) → take n (drop 3 bytes) ≡ packed bits → plain_why bits mark bytes ≡ head_why 0 mark bytes
+  pub plain_head : (HasPad (take n (drop 3 bytes)) len → ⊥) → take n (drop 3 bytes) ≡ packed reading.bits → plain_why reading bytes ≡ head_why reading.metric reading.mark bytes
   unfolding plain_why pad_fault bits_fault head_why
   plain_head none same =
-      let e : has_pad (bits_part (length bits) bytes) (length bits) ≡ false = no_pad_found (bits_part (length bits) bytes) (length bits) (λ h. none (pad_here h)) in
-      let f : bytes_eq (bits_part (length bits) bytes) (packed bits) ≡ true = all_same (bits_part (length bits) bytes) (packed bits) (sym part_is ∙ same) in
+      let e : has_pad (bits_part (length reading.bits) bytes) (length reading.bits) ≡ false = no_pad_found (bits_part (length reading.bits) bytes) (length reading.bits) (λ h. none (pad_here h)) in
+      let f : bytes_eq (bits_part (length reading.bits) bytes) (packed reading.bits) ≡ true = all_same (bits_part (length reading.bits) bytes) (packed reading.bits) (sym part_is ∙ same) in
       rw (e, f) refl
 
 -- the tests of a field of a code, where its table begins behind so many bytes
-module _ (par : ℕ) (p : CodePlan) (soft : List ℤ) (bytes : List ℕ) (behind len : ℕ) (en : behind ≡ 3 + bytes_for (p.steps - 4)) (el : len ≡ p.steps - 4) where
-  coded_part : take (behind - 3) (drop 3 bytes) ≡ bits_part (p.steps - 4) bytes
-  coded_part = let n : behind - 3 ≡ bytes_for (p.steps - 4) = omega arith in ap (λ k. take k (drop 3 bytes)) n
+module _ (channel : Channel) (soft : List ℤ) (bytes : List ℕ) (behind len : ℕ) (en : behind ≡ 3 + bytes_for (channel.plan.steps - 4)) (el : len ≡ channel.plan.steps - 4) where
+  coded_part : take (behind - 3) (drop 3 bytes) ≡ bits_part (channel.plan.steps - 4) bytes
+  coded_part = let n : behind - 3 ≡ bytes_for (channel.plan.steps - 4) = omega arith in ap (λ k. take k (drop 3 bytes)) n
 
-  coded_there : HasPad (take (behind - 3) (drop 3 bytes)) len → HasPad (bits_part (p.steps - 4) bytes) (p.steps - 4)
-  coded_there h = subst (λ (k : ℕ). HasPad (bits_part (p.steps - 4) bytes) k) el (subst (λ (part : List ℕ). HasPad part len) coded_part h)
+  coded_there : HasPad (take (behind - 3) (drop 3 bytes)) len → HasPad (bits_part (channel.plan.steps - 4) bytes) (channel.plan.steps - 4)
+  coded_there h = subst (λ (k : ℕ). HasPad (bits_part (channel.plan.steps - 4) bytes) k) el (subst (λ (part : List ℕ). HasPad part len) coded_part h)
 
-  coded_here : HasPad (bits_part (p.steps - 4) bytes) (p.steps - 4) → HasPad (take (behind - 3) (drop 3 bytes)) len
-  coded_here h = subst (λ (k : ℕ). HasPad (take (behind - 3) (drop 3 bytes)) k) (sym el) (subst (λ (part : List ℕ). HasPad part (p.steps - 4)) (sym coded_part) h)
+  coded_here : HasPad (bits_part (channel.plan.steps - 4) bytes) (channel.plan.steps - 4) → HasPad (take (behind - 3) (drop 3 bytes)) len
+  coded_here h = subst (λ (k : ℕ). HasPad (take (behind - 3) (drop 3 bytes)) k) (sym el) (subst (λ (part : List ℕ). HasPad part (channel.plan.steps - 4)) (sym coded_part) h)
 
-  pub coded_pad : HasPad (take (behind - 3) (drop 3 bytes)) len → coded_why par p soft bytes ≡ Some Pad
+  pub coded_pad : HasPad (take (behind - 3) (drop 3 bytes)) len → coded_why channel soft bytes ≡ Some Pad
   unfolding coded_why pad_fault
-  coded_pad h = let e : has_pad (bits_part (p.steps - 4) bytes) (p.steps - 4) ≡ true = pad_found (bits_part (p.steps - 4) bytes) (p.steps - 4) (coded_there h) in rw e refl
+  coded_pad h = let e : has_pad (bits_part (channel.plan.steps - 4) bytes) (channel.plan.steps - 4) ≡ true = pad_found (bits_part (channel.plan.steps - 4) bytes) (channel.plan.steps - 4) (coded_there h) in rw e refl
 
   -- what was read of it
   module _ (message : List Bool) (table : List (List ℕ)) (rows : ℕ) (small : (q : ℕ) → get_or bytes q 0 < 256) (long : behind ≤ length bytes)
-      (size : length message ≡ len) (taken : packed message ≡ take (behind - 3) (drop 3 bytes)) (er : rows ≡ p.steps + 1)
+      (size : length message ≡ len) (taken : packed message ≡ take (behind - 3) (drop 3 bytes)) (er : rows ≡ channel.plan.steps + 1)
       (read : table ≡ claimed_table (take (length bytes - behind) (drop behind bytes)) rows) where
-    no_pad : HasPad (bits_part (p.steps - 4) bytes) (p.steps - 4) → ⊥
+    no_pad : HasPad (bits_part (channel.plan.steps - 4) bytes) (channel.plan.steps - 4) → ⊥
     no_pad h = packed_pads message (take (behind - 3) (drop 3 bytes)) len size taken (coded_here h)
 
-    message_is : message ≡ claimed_bits (bits_part (p.steps - 4) bytes) (p.steps - 4)
+    message_is : message ≡ claimed_bits (bits_part (channel.plan.steps - 4) bytes) (channel.plan.steps - 4)
     message_is =
-        let n : behind - 3 ≡ bytes_for (p.steps - 4) = omega arith in
+        let n : behind - 3 ≡ bytes_for (channel.plan.steps - 4) = omega arith in
         claimed_is (take (behind - 3) (drop 3 bytes)) len message (small_part bytes (behind - 3) small) (length-part bytes (behind - 3) (omega arith) ∙ (n ∙ ap bytes_for (sym el))) size taken
-        ∙ (ap (λ part. claimed_bits part len) coded_part ∙ ap (claimed_bits (bits_part (p.steps - 4) bytes)) el)
+        ∙ (ap (λ part. claimed_bits part len) coded_part ∙ ap (claimed_bits (bits_part (channel.plan.steps - 4) bytes)) el)
 
-    table_is : table ≡ claimed_table (table_part (p.steps - 4) bytes) (p.steps + 1)
+    table_is : table ≡ claimed_table (table_part (channel.plan.steps - 4) bytes) (channel.plan.steps + 1)
     table_is =
         let whole : take (length bytes - behind) (drop behind bytes) ≡ drop behind bytes = take_all (length bytes - behind) (drop behind bytes) (omega (arith, length-drop behind bytes)) in
-        read ∙ (ap (λ part. claimed_table part rows) whole ∙ (ap (λ k. claimed_table (drop k bytes) rows) en ∙ ap (claimed_table (table_part (p.steps - 4) bytes)) er))
+        read ∙ (ap (λ part. claimed_table part rows) whole ∙ (ap (λ k. claimed_table (drop k bytes) rows) en ∙ ap (claimed_table (table_part (channel.plan.steps - 4) bytes)) er))
 
-    verdict_is : verdict_of p soft message table ≡ verdict_of p soft (claimed_bits (bits_part (p.steps - 4) bytes) (p.steps - 4)) (claimed_table (table_part (p.steps - 4) bytes) (p.steps + 1))
-    verdict_is = ap (λ m. verdict_of p soft m table) message_is ∙ ap (verdict_of p soft (claimed_bits (bits_part (p.steps - 4) bytes) (p.steps - 4))) table_is
+    verdict_is : verdict_of channel.plan soft message table ≡ verdict_of channel.plan soft (claimed_bits (bits_part (channel.plan.steps - 4) bytes) (channel.plan.steps - 4)) (claimed_table (table_part (channel.plan.steps - 4) bytes) (channel.plan.steps + 1))
+    verdict_is = ap (λ m. verdict_of channel.plan soft m table) message_is ∙ ap (verdict_of channel.plan soft (claimed_bits (bits_part (channel.plan.steps - 4) bytes) (channel.plan.steps - 4))) table_is
 
-    pub coded_cert : (t s : ℕ) (rule : Rule) → Refused t s rule ≡ verdict_of p soft message table → coded_why par p soft bytes ≡ Some (Cert t s rule)
+    pub coded_cert : (t s : ℕ) (rule : Rule) → Refused t s rule ≡ verdict_of channel.plan soft message table → coded_why channel soft bytes ≡ Some (Cert t s rule)
     unfolding coded_why pad_fault cert_fault
     coded_cert t s rule e =
-        let f : has_pad (bits_part (p.steps - 4) bytes) (p.steps - 4) ≡ false = no_pad_found (bits_part (p.steps - 4) bytes) (p.steps - 4) no_pad in
-        let v : verdict_of p soft (claimed_bits (bits_part (p.steps - 4) bytes) (p.steps - 4)) (claimed_table (table_part (p.steps - 4) bytes) (p.steps + 1)) ≡ Refused t s rule = sym (e ∙ verdict_is) in
+        let f : has_pad (bits_part (channel.plan.steps - 4) bytes) (channel.plan.steps - 4) ≡ false = no_pad_found (bits_part (channel.plan.steps - 4) bytes) (channel.plan.steps - 4) no_pad in
+        let v : verdict_of channel.plan soft (claimed_bits (bits_part (channel.plan.steps - 4) bytes) (channel.plan.steps - 4)) (claimed_table (table_part (channel.plan.steps - 4) bytes) (channel.plan.steps + 1)) ≡ Refused t s rule = sym (e ∙ verdict_is) in
         rw (f, v) refl
 
-    pub coded_head : (metric : ℕ) (mark : Mark) → Accepted ≡ verdict_of p soft message table → metric ≡ message_metric p soft (best_of p soft) → mark ≡ mark_of par (best_of p soft) →
-        head_why metric mark bytes ≡ coded_why par p soft bytes
+    pub coded_head : (metric : ℕ) (mark : Mark) → Accepted ≡ verdict_of channel.plan soft message table → metric ≡ message_metric channel.plan soft (best_of channel.plan soft) → mark ≡ mark_of channel.parity (best_of channel.plan soft) →
+        head_why metric mark bytes ≡ coded_why channel soft bytes
     unfolding coded_why pad_fault cert_fault head_why coded_reading
     coded_head metric mark e em ek =
-        let f : has_pad (bits_part (p.steps - 4) bytes) (p.steps - 4) ≡ false = no_pad_found (bits_part (p.steps - 4) bytes) (p.steps - 4) no_pad in
-        let v : verdict_of p soft (claimed_bits (bits_part (p.steps - 4) bytes) (p.steps - 4)) (claimed_table (table_part (p.steps - 4) bytes) (p.steps + 1)) ≡ Accepted = sym (e ∙ verdict_is) in
+        let f : has_pad (bits_part (channel.plan.steps - 4) bytes) (channel.plan.steps - 4) ≡ false = no_pad_found (bits_part (channel.plan.steps - 4) bytes) (channel.plan.steps - 4) no_pad in
+        let v : verdict_of channel.plan soft (claimed_bits (bits_part (channel.plan.steps - 4) bytes) (channel.plan.steps - 4)) (claimed_table (table_part (channel.plan.steps - 4) bytes) (channel.plan.steps + 1)) ≡ Accepted = sym (e ∙ verdict_is) in
         rw (f, v, em, ek) refl

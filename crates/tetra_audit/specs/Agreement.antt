@@ -18,6 +18,7 @@ use Rattle.tetra_session.specs.Readers.{reader, channel_of, field_reading}
 use Rattle.tetra_session.specs.Heard.{slot_letter, slot_front, slot_reading}
 use Rattle.tetra_session.specs.declared.front.FrontField.{FrontField}
 use Rattle.tetra_session.specs.declared.front.Front.{Front}
+use Rattle.tetra_settings.specs.Validity.{IsValid}
 use Rattle.tetra_settings.specs.declared.readings.Field.{Field}
 use Rattle.tetra_settings.specs.declared.types.Form.TheVariants.{Audit}
 use Rattle.tetra_settings.specs.declared.types.Settings.{Settings}
@@ -76,9 +77,10 @@ AgreesExactly =
 abbrev pub own_record : Settings → List (List ℤ) → List ℤ → List ℕ
 own_record settings history soft = reading_spelling Audit (slot_reading settings history soft)
 
--- it has the length that is claimed for the slot, and agrees
+-- in a slot of 510 positions it has the length that is claimed for the slot, and agrees
 abbrev pub OwnRecordsAgree : Type 0
 OwnRecordsAgree = (settings : Settings) (history : List (List ℤ)) (soft : List ℤ)
-    → IsBuilt settings → AllSoft soft → IsBuiltLetter (slot_letter settings (length history) soft)
+    → IsValid settings → IsBuilt settings → length soft ≡ 510 → AllSoft soft
+    → IsBuiltLetter (slot_letter settings (length history) soft)
     → (length (own_record settings history soft) ≡ claim_length (slot_front settings history soft))
     × (slot_verdict settings.rows (slot_front settings history soft) (own_record settings history soft) ≡ Agrees)

@@ -1,60 +1,32 @@
 // The audit of one field.
-ghost use Rattle.std.specs.Prelude.{◌≡◌, ◌<◌, ◌≤◌, ◌+◌, ◌-◌, ◌*◌, false, length, replicate};
+ghost use Rattle.std.specs.Prelude.{◌≡◌, ◌≤◌, ◌+◌, ◌-◌, ◌*◌, ℕ, None, length};
 ghost use Rattle.tetra_bits.specs.Packed.{bytes_for};
-ghost use Rattle.tetra_channels.specs.Fields.{mark_of};
-ghost use Rattle.tetra_records.specs.Readings.{mark_byte};
-ghost use Rattle.tetra_session.specs.Fronts.{IsFrontField, field_values};
-ghost use Rattle.tetra_settings.specs.Readings.{message_bits, certificate_rows};
+ghost use Rattle.tetra_channels.specs.Fields.{access_reading};
+ghost use Rattle.tetra_parity.specs.Parity.{width};
+ghost use Rattle.tetra_session.specs.Fronts.{IsFrontField};
 ghost use Rattle.tetra_audit.specs.Fields.{IsAudited, field_length};
 ghost use Rattle.tetra_audit.specs.Parts.{coded_why, plain_why, head_why};
 ghost use Rattle.tetra_audit.specs.Verdicts.{field_why};
 
 use crate::claims::read_table;
-use crate::layouts::bits_of;
 use crate::verdict::FieldWhy;
 use tetra_bits::{Bits, Mark, Potentials, Soft, pack, read_plain, unpack};
 use tetra_cert::{Verdict, check};
-use tetra_parity::holds16;
+use tetra_parity::{Parity, mark};
 use tetra_puncture::{Plan, TwoThirds};
+use tetra_rm::{Rows, decode, message_bits};
 use tetra_session::FrontField;
 use tetra_settings::FieldName;
 
-/// The byte of a mark.
-fn byte_of(mark: Mark) -> u8
-    ensures { result ≡ mark_byte mark }
-{
-    match mark {
-        Mark::Good => b'G',
-        Mark::Bad => b'B',
-        Mark::Unchecked => b'U',
-        Mark::NotYet => b'N',
-    }
-}
-
-#[tactic(auto, unfolding(tetra_channels::specs::Fields::mark_of))]
-/// The mark of a message whose last `PAR` bits, 16 or none, are parity.
-fn mark<const PAR: usize>(message: &Bits) -> Mark
-    requires { PAR ≤ length message.now }
-    ensures { result ≡ mark_of PAR message.now }
-{
-    if PAR != 16 {
-        Mark::Unchecked
-    } else if holds16(message) {
-        Mark::Good
-    } else {
-        Mark::Bad
-    }
-}
-
-#[tactic(auto, using(crate::proofs::Testing::metric_differs, crate::proofs::Testing::mark_differs, crate::proofs::Testing::head_agrees))]
 /// The last two tests: the metric and the mark.
+#[tactic(auto, using(crate::proofs::Testing::metric_differs, crate::proofs::Testing::mark_differs, crate::proofs::Testing::head_agrees))]
 fn head_fault(bytes: &[u8], metric: u32, mark: Mark) -> Option<FieldWhy>
     requires { 3 ≤ length bytes.now }
     ensures { result ≡ head_why metric mark bytes.now }
 {
     if 256 * u32::from(bytes[1]) + u32::from(bytes[2]) != metric {
         Some(FieldWhy::Metric)
-    } else if bytes[0] != byte_of(mark) {
+    } else if bytes[0] != mark.byte() {
         Some(FieldWhy::Mark)
     } else {
         None
@@ -62,9 +34,10 @@ fn head_fault(bytes: &[u8], metric: u32, mark: Mark) -> Option<FieldWhy>
 }
 
 /// The tests of a field whose bits come by no trellis.
-fn plain_fault(bits: &Bits, mark: Mark, bytes: &[u8]) -> Option<FieldWhy>
+fn plain_fault(bits: &Bits, metric: u32, mark: Mark, bytes: &[u8]) -> Option<FieldWhy>
     requires { length bytes.now ≡ 3 + bytes_for (length bits.now) }
-    ensures { result ≡ plain_why bits.now mark bytes.now }
+    ensures { result ≡ plain_why
+        (record { mark = mark; metric = metric; bits = bits.now; potentials = None }) bytes.now }
 {
     let claimed = &bytes[3..];
     if unpack(claimed, bits.len()).is_err() {
@@ -73,21 +46,38 @@ fn plain_fault(bits: &Bits, mark: Mark, bytes: &[u8]) -> Option<FieldWhy>
     if pack(bits).as_slice() != claimed {
         return Some(FieldWhy::Bits);
     }
-    head_fault(bytes, 0, mark)
+    head_fault(bytes, metric, mark)
 }
 
-/// The tests of a field of a code with `PAR` parity bits, 16 or none, and the plan `P`. The certificate is read into
-/// `potentials`.
-fn coded_fault<const PAR: usize, P: Plan>(
+/// The tests of an access field.
+fn access_fault(rows: &Rows, soft: &Soft, bytes: &[u8]) -> Option<FieldWhy>
+    requires values { length soft.now ≡ 30 }
+    requires size { length bytes.now ≡ 5 }
+    ensures { result ≡ plain_why (access_reading rows.now.0 soft.now) bytes.now }
+{
+    let read = decode(rows, soft);
+    plain_fault(
+        &message_bits(read.message),
+        read.metric,
+        Mark::Unchecked,
+        bytes,
+    )
+}
+
+/// The tests of a field of a channel with this parity and the plan `P`, whatever its interleaver. The certificate is
+/// read into `potentials`.
+fn coded_fault<P: Plan>(
+    parity: Parity,
     soft: &Soft,
     bytes: &[u8],
     potentials: &mut Potentials,
 ) -> Option<FieldWhy>
     requires sound { P.IsSound }
-    requires parity { PAR + 4 ≤ P.plan.steps }
+    requires parity { width parity + 4 ≤ P.plan.steps }
     requires values { length soft.now ≡ P.SENT }
     requires size { length bytes.now ≡ 3 + bytes_for (P.plan.steps - 4) + 32 * (P.plan.steps + 1) }
-    ensures { result ≡ coded_why PAR P.plan soft.now bytes.now }
+    ensures { (a : ℕ) → result
+        ≡ coded_why (record { parity = parity; a = a; plan = P.plan }) soft.now bytes.now }
 {
     let len = P::STEPS - 4;
     let behind = 3 + len.div_ceil(8);
@@ -98,23 +88,13 @@ fn coded_fault<const PAR: usize, P: Plan>(
     if let Verdict::Refused { step, state, rule } = check::<P>(soft, &message, potentials) {
         return Some(FieldWhy::Cert { step, state, rule });
     }
-    head_fault(bytes, potentials.at(0, 0), mark::<PAR>(&message))
+    head_fault(bytes, potentials.at(0, 0), mark(parity, &message))
 }
 
-/// So many bits 0.
-fn zeros(len: usize) -> Bits
-    requires { len ≤ 432 }
-    ensures { result ≡ replicate len false }
-{
-    let mut bits = Bits::new();
-    for _k in 0..len {
-        bits.push(false);
-    }
-    bits
-}
-
-/// The first test of a field that fails on its bytes. A certificate is read into `potentials`.
+/// The first test of a field that fails on its bytes. The rows are those of the access code. A certificate is read
+/// into `potentials`.
 pub fn field_fault(
+    rows: &Rows,
     field: &FrontField,
     bytes: &[u8],
     potentials: &mut Potentials,
@@ -122,16 +102,43 @@ pub fn field_fault(
     requires field { IsFrontField field.now }
     requires audited { IsAudited field.now }
     requires size { length bytes.now ≡ field_length field.now }
-    ensures { result ≡ field_why field.now bytes.now }
+    ensures { result ≡ field_why rows.now.0 field.now bytes.now }
 {
     let Some(soft) = &field.soft else {
-        return plain_fault(&zeros(bits_of(field.name)), Mark::NotYet, bytes);
+        return plain_fault(
+            &Bits::zeros(field.name.sizes().bits),
+            0,
+            Mark::NotYet,
+            bytes,
+        );
     };
     match field.name {
-        FieldName::Sync => coded_fault::<16, TwoThirds<80, 120>>(soft, bytes, potentials),
-        FieldName::Half => coded_fault::<16, TwoThirds<144, 216>>(soft, bytes, potentials),
-        FieldName::Hu => coded_fault::<16, TwoThirds<112, 168>>(soft, bytes, potentials),
-        FieldName::Full => coded_fault::<16, TwoThirds<288, 432>>(soft, bytes, potentials),
-        _ => plain_fault(&read_plain(soft), Mark::Unchecked, bytes),
+        FieldName::Aach => access_fault(rows, soft, bytes),
+        FieldName::Sync => coded_fault::<TwoThirds<80, 120>>(
+            Parity::Sixteen,
+            soft,
+            bytes,
+            potentials,
+        ),
+        FieldName::Half => coded_fault::<TwoThirds<144, 216>>(
+            Parity::Sixteen,
+            soft,
+            bytes,
+            potentials,
+        ),
+        FieldName::Hu => coded_fault::<TwoThirds<112, 168>>(
+            Parity::Sixteen,
+            soft,
+            bytes,
+            potentials,
+        ),
+        FieldName::Full => coded_fault::<TwoThirds<288, 432>>(
+            Parity::Sixteen,
+            soft,
+            bytes,
+            potentials,
+        ),
+        FieldName::D72 => plain_fault(&read_plain(soft), 0, Mark::Unchecked, bytes),
+        FieldName::D48 | FieldName::D24 | FieldName::Whole | FieldName::Single => unreachable!(),
     }
 }

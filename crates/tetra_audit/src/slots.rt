@@ -43,7 +43,7 @@ pub fn audit_slot_with(
     let mut at = 1;
     for (i, field) in front.fields.as_slice().iter().enumerate() {
         let end = at + field_len(field);
-        if let Some(why) = field_fault(field, &claim[at..end], potentials) {
+        if let Some(why) = field_fault(rows, field, &claim[at..end], potentials) {
             return SlotVerdict::Field {
                 index: i as u8,
                 why,

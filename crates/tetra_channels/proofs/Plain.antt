@@ -1,5 +1,5 @@
 -- Readings without a trellis.
-use Rattle.std.proofs.Common.{◌≡◌, ℕ, Bool, List, ℤ, length, None, refl, ap, sym, ◌∙◌}
+use Rattle.std.proofs.Common.{◌≡◌, ℕ, Bool, List, ℤ, length, None, refl}
 use Rattle.tetra_bits.specs.Cost.{metric}
 use Rattle.tetra_bits.specs.Digits.{digits}
 use Rattle.tetra_bits.specs.Plain.{best_plain}

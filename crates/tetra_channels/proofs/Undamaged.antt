@@ -1,6 +1,6 @@
 -- Undamaged values stay undamaged on the way back from type 5 to type 3, and name the block.
-use Rattle.std.proofs.Common.{◌≡◌, ℕ, ◌+◌, ◌<◌, ◌^◌, ◌⊎◌, inl, inr, Bool, false, List, length, arith, refl, sym, subst, ◌∙◌}
-use Rattle.std.specs.Prelude.{ℤ, pos}
+use Rattle.std.proofs.Common.{◌≡◌, ℕ, ◌+◌, ◌<◌, ◌⊎◌, inl, inr, Bool, List, length, arith, refl, sym, subst, ◌∙◌}
+use Rattle.std.specs.Prelude.{ℤ}
 use Rattle.tetra_bits.specs.Cost.{metric}
 use Rattle.tetra_bits.specs.Digits.{digits}
 use Rattle.tetra_bits.specs.Numbered.{length-numbered}
@@ -11,11 +11,11 @@ use Rattle.tetra_interleave.specs.Block.{IsBlock, block_place}
 use Rattle.tetra_interleave.specs.Laws.{StayUndamaged, BlocksAreOneToOne}
 use Rattle.tetra_parity.specs.Marks.{BlocksAreGood}
 use Rattle.tetra_parity.specs.Parity.{width}
-use Rattle.tetra_puncture.specs.Plan.{CodePlan, IsMessage, WordsDiffer, word}
+use Rattle.tetra_puncture.specs.Plan.{IsMessage, WordsDiffer, word}
 use Rattle.tetra_puncture.specs.lemmas.Undamaged.{length-word, undamaged_free, undamaged_is_best}
 use Rattle.tetra_rm.specs.Code.{access_word, UndamagedArrives}
 use Rattle.tetra_scramble.specs.Flips.{flipped, turned, FlippedBack, StaysUndamaged}
-use Rattle.tetra_channels.specs.Channels.{Channel, message_of, type3_bits, type4_bits, type4_place, type5_bits, front_values, raw_bits, access_bits}
+use Rattle.tetra_channels.specs.Channels.{Channel, message_of, type3_bits, type4_bits, type5_bits, front_values, raw_bits, access_bits}
 use Rattle.tetra_channels.specs.Fields.{coded_reading, raw_reading, access_reading}
 use Rattle.tetra_channels.specs.Laws.{written_reading, written_plain, UndamagedIsRead, UndamagedRawIsRead, UndamagedAccessIsRead}
 use Rattle.tetra_channels.proofs.Sizes.{length-message_of}

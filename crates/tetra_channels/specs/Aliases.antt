@@ -1,7 +1,6 @@
 -- The numbers of the six channels, as they are written in their types.
 use Rattle.std.specs.Prelude.{◌≡◌, ℕ}
 use Rattle.tetra_puncture.specs.Places.{IsTwoThirds}
-use Rattle.tetra_puncture.specs.Plan.{CodePlan}
 use Rattle.tetra_channels.specs.Channels.{Channel, IsChannel, coded, bsch, hu, half, full, data48, data24}
 
 -- the numbers fit together, and are those of this row

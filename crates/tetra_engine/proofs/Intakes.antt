@@ -1,5 +1,5 @@
 -- What an intake reads, for any shape over slots.
-use Rattle.std.proofs.Common.{◌≡◌, ℕ, ◌<◌, List, [], length, take, refl, sym, ap, ◌∙◌, arith, subst, false, ℤ}
+use Rattle.std.proofs.Common.{◌≡◌, ℕ, ◌<◌, List, [], length, take, sym, ap, ◌∙◌, arith, subst, false, ℤ}
 use Rattle.std.specs.declared.option.Option.{Option}
 use Rattle.std.specs.Io.KnownBytes.{Consumes}
 use Rattle.std.proofs.KnownBytes.{Consumes-nil}
@@ -10,7 +10,6 @@ use Rattle.tetra_io.specs.declared.filling.Filled.TheVariants.{Ended}
 use Rattle.tetra_settings.specs.declared.types.Settings.{Settings}
 use Rattle.tetra_session.specs.declared.receiver.Receiver.{Receiver}
 use Rattle.tetra_session.specs.Heard.{ReceiverStands, slot_letter}
-use Rattle.tetra_records.specs.declared.faults.RecordFault.TheVariants.{Truncated}
 use Rattle.tetra_engine.specs.declared.intake.Intake.{Intake}
 use Rattle.tetra_engine.specs.declared.status.Status.TheVariants.{Input, NotBuilt as NotBuiltStatus}
 use Rattle.tetra_engine.specs.declared.work.Stop.{Stop}

@@ -11,3 +11,4 @@ pub mod OwnReadings
 pub mod Said
 pub mod MeetsEnd
 pub mod Intakes
+pub mod Small

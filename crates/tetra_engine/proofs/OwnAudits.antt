@@ -13,8 +13,7 @@ use Rattle.tetra_settings.specs.Slots.{mode_of, use_of}
 use Rattle.tetra_settings.specs.declared.types.Form.{Form}
 use Rattle.tetra_settings.specs.declared.types.Form.TheVariants.{Audit}
 use Rattle.tetra_settings.specs.declared.types.Settings.{Settings}
-use Rattle.tetra_audit.proofs.OwnRecords.{own_records_agree}
-use Rattle.tetra_audit.specs.Agreement.{own_record}
+use Rattle.tetra_audit.specs.Agreement.{own_record, OwnRecordsAgree}
 use Rattle.tetra_audit.specs.Fields.{claim_length}
 use Rattle.tetra_audit.specs.Verdicts.{slot_verdict}
 use Rattle.tetra_audit.specs.declared.verdict.SlotVerdict.TheVariants.{Agrees}
@@ -77,55 +76,56 @@ module _ (settings : Settings) (form : Form) (max : ℕ) where
     many = omega (arith, length-append claimed (own before slot ∷ []), length-append before (slot ∷ []), behind.many);
   }
 
-  module _ (before : List (List ℕ)) (claimed : List Claimed) (slot : List ℕ) (behind : Behind before claimed) (built : IsTrue (is_built_slot settings (length before) slot)) where
-    front_is : front_at (to_read_back settings form max) claimed slot ≡ slot_front settings (map soft_values before) (soft_values slot)
-    front_is = front_same (slots_of claimed) (soft_values slot) ∙ ap (λ history. slot_front settings history (soft_values slot)) behind.slots
+  module _ (agree : OwnRecordsAgree) where
+    module _ (before : List (List ℕ)) (claimed : List Claimed) (slot : List ℕ) (behind : Behind before claimed) (built : IsTrue (is_built_slot settings (length before) slot)) where
+      front_is : front_at (to_read_back settings form max) claimed slot ≡ slot_front settings (map soft_values before) (soft_values slot)
+      front_is = front_same (slots_of claimed) (soft_values slot) ∙ ap (λ history. slot_front settings history (soft_values slot)) behind.slots
 
-    letter_built : IsBuiltLetter (slot_letter settings (length (map soft_values before)) (soft_values slot))
-    letter_built = subst (λ n. IsBuiltLetter (slot_letter settings n (soft_values slot))) (sym (length-map before soft_values)) built
+      letter_built : IsBuiltLetter (slot_letter settings (length (map soft_values before)) (soft_values slot))
+      letter_built = subst (λ n. IsBuiltLetter (slot_letter settings n (soft_values slot))) (sym (length-map before soft_values)) built
 
-    still_built : IsTrue (is_built_slot (to_read_back settings form max) (length claimed) slot)
-    still_built =
-        let at_claimed : IsTrue (is_built_slot settings (length claimed) slot) = subst (λ n. IsTrue (is_built_slot settings n slot)) (sym behind.many) built in
-        subst (λ letter. IsTrue (is_built_letter letter)) (sym (letter_same (length claimed) (soft_values slot))) at_claimed
+      still_built : IsTrue (is_built_slot (to_read_back settings form max) (length claimed) slot)
+      still_built =
+          let at_claimed : IsTrue (is_built_slot settings (length claimed) slot) = subst (λ n. IsTrue (is_built_slot settings n slot)) (sym behind.many) built in
+          subst (λ letter. IsTrue (is_built_letter letter)) (sym (letter_same (length claimed) (soft_values slot))) at_claimed
 
-    long : length (own_record settings (map soft_values before) (soft_values slot)) ≡ claim_length (front_at (to_read_back settings form max) claimed slot)
-    long =
-        (own_records_agree settings.rows settings (map soft_values before) (soft_values slot) (soft_slot slot) letter_built).0
-        ∙ ap claim_length (sym front_is)
+      long : length (own_record settings (map soft_values before) (soft_values slot)) ≡ claim_length (front_at (to_read_back settings form max) claimed slot)
+      long =
+          (agree settings.rows settings (map soft_values before) (soft_values slot) (soft_slot slot) letter_built).0
+          ∙ ap claim_length (sym front_is)
 
-    agrees : verdict_at (to_read_back settings form max) claimed (own before slot) ≡ Agrees
-    unfolding own
-    agrees =
-        ap (λ front. slot_verdict settings.rows front (own_record settings (map soft_values before) (soft_values slot))) front_is
-        ∙ (own_records_agree settings.rows settings (map soft_values before) (soft_values slot) (soft_slot slot) letter_built).1
+      agrees : verdict_at (to_read_back settings form max) claimed (own before slot) ≡ Agrees
+      unfolding own
+      agrees =
+          ap (λ front. slot_verdict settings.rows front (own_record settings (map soft_values before) (soft_values slot))) front_is
+          ∙ (agree settings.rows settings (map soft_values before) (soft_values slot) (soft_slot slot) letter_built).1
 
-  inputs : (slots before : List (List ℕ)) (claimed : List Claimed) → Behind before claimed → AreInputs (decoding settings) before slots
-      → AreInputs (auditing (to_read_back settings form max)) claimed (owns before slots)
-  unfolding own owns
-  inputs [] before claimed behind each = tt
-  inputs (slot ∷ slots) before claimed behind each = (
-    (each.0.0, still_built before claimed slot behind each.0.1, long before claimed slot behind each.0.1),
-    inputs slots (before ++ slot ∷ []) (claimed ++ own before slot ∷ []) (behind_more before claimed slot behind) each.1,
-  )
+    inputs : (slots before : List (List ℕ)) (claimed : List Claimed) → Behind before claimed → AreInputs (decoding settings) before slots
+        → AreInputs (auditing (to_read_back settings form max)) claimed (owns before slots)
+    unfolding own owns
+    inputs [] before claimed behind each = tt
+    inputs (slot ∷ slots) before claimed behind each = (
+      (each.0.0, still_built before claimed slot behind each.0.1, long before claimed slot behind each.0.1),
+      inputs slots (before ++ slot ∷ []) (claimed ++ own before slot ∷ []) (behind_more before claimed slot behind) each.1,
+    )
 
-  none_refused : (slots before : List (List ℕ)) (claimed : List Claimed) → Behind before claimed → AreInputs (decoding settings) before slots
-      → refused_slots (to_read_back settings form max) claimed (owns before slots) ≡ []
-  unfolding owns
-  none_refused [] before claimed behind each = refl
-  none_refused (slot ∷ slots) before claimed behind each =
-      ap (λ verdict. refused_by (length claimed) verdict ++ refused_slots (to_read_back settings form max) (claimed ++ own before slot ∷ []) (owns (before ++ slot ∷ []) slots)) (agrees before claimed slot behind each.0.1)
-      ∙ none_refused slots (before ++ slot ∷ []) (claimed ++ own before slot ∷ []) (behind_more before claimed slot behind) each.1
+    none_refused : (slots before : List (List ℕ)) (claimed : List Claimed) → Behind before claimed → AreInputs (decoding settings) before slots
+        → refused_slots (to_read_back settings form max) claimed (owns before slots) ≡ []
+    unfolding owns
+    none_refused [] before claimed behind each = refl
+    none_refused (slot ∷ slots) before claimed behind each =
+        ap (λ verdict. refused_by (length claimed) verdict ++ refused_slots (to_read_back settings form max) (claimed ++ own before slot ∷ []) (owns (before ++ slot ∷ []) slots)) (agrees before claimed slot behind each.0.1)
+        ∙ none_refused slots (before ++ slot ∷ []) (claimed ++ own before slot ∷ []) (behind_more before claimed slot behind) each.1
 
-  lines : (slots before : List (List ℕ)) (claimed : List Claimed) → Behind before claimed → AreInputs (decoding settings) before slots
-      → outputs (auditing (to_read_back settings form max)) claimed (owns before slots) ≡ flat_map (λ slot. verdict_line slot Agrees) (range_with_len (length claimed) (length slots))
-  unfolding owns
-  lines [] before claimed behind each = refl
-  lines (slot ∷ slots) before claimed behind each =
-      let more : length (claimed ++ own before slot ∷ []) ≡ length claimed + 1 = length-append claimed (own before slot ∷ []) in
-      ap (λ verdict. verdict_line (length claimed) verdict ++ outputs (auditing (to_read_back settings form max)) (claimed ++ own before slot ∷ []) (owns (before ++ slot ∷ []) slots)) (agrees before claimed slot behind each.0.1)
-      ∙ (ap (λ rest. verdict_line (length claimed) Agrees ++ rest) (lines slots (before ++ slot ∷ []) (claimed ++ own before slot ∷ []) (behind_more before claimed slot behind) each.1)
-      ∙ ap (λ n. verdict_line (length claimed) Agrees ++ flat_map (λ s. verdict_line s Agrees) (range_with_len n (length slots))) more)
+    lines : (slots before : List (List ℕ)) (claimed : List Claimed) → Behind before claimed → AreInputs (decoding settings) before slots
+        → outputs (auditing (to_read_back settings form max)) claimed (owns before slots) ≡ flat_map (λ slot. verdict_line slot Agrees) (range_with_len (length claimed) (length slots))
+    unfolding owns
+    lines [] before claimed behind each = refl
+    lines (slot ∷ slots) before claimed behind each =
+        let more : length (claimed ++ own before slot ∷ []) ≡ length claimed + 1 = length-append claimed (own before slot ∷ []) in
+        ap (λ verdict. verdict_line (length claimed) verdict ++ outputs (auditing (to_read_back settings form max)) (claimed ++ own before slot ∷ []) (owns (before ++ slot ∷ []) slots)) (agrees before claimed slot behind each.0.1)
+        ∙ (ap (λ rest. verdict_line (length claimed) Agrees ++ rest) (lines slots (before ++ slot ∷ []) (claimed ++ own before slot ∷ []) (behind_more before claimed slot behind) each.1)
+        ∙ ap (λ n. verdict_line (length claimed) Agrees ++ flat_map (λ s. verdict_line s Agrees) (range_with_len n (length slots))) more)
 
   -- what decoding writes is what an audit reads
   written_is : settings.form ≡ Audit → (slots before : List (List ℕ)) → outputs (decoding settings) before slots ≡ spellings (auditing (to_read_back settings form max)) (owns before slots)
@@ -140,8 +140,8 @@ module _ (settings : Settings) (form : Form) (max : ℕ) where
 no_more : (x : Claimed) (rest : List ℕ) → length x.0 ≡ 510 → [] ≡ (x.0 ++ x.1) ++ rest → ⊥
 no_more x rest size e = absurd (omega (arith, ap length e, length-append (x.0 ++ x.1) rest, length-append x.0 x.1))
 
-pub decoded_agrees : DecodedAgrees
-decoded_agrees settings form max bytes written end audit few ran =
+pub decoded_agrees : OwnRecordsAgree → DecodedAgrees
+decoded_agrees agree settings form max bytes written end audit few ran =
     let slots : List (List ℕ) = ran.xs in
     let start : Behind settings form max [] [] = record { slots = refl; many = refl } in
     let many : length (owns settings form max [] slots) ≡ length slots = length-owns settings form max [] slots in
@@ -150,11 +150,11 @@ decoded_agrees settings form max bytes written end audit few ran =
       rest = [];
       cut = record {
         whole = sym ran.output ∙ (written_is settings form max audit slots [] ∙ sym (append-nil (spellings (auditing (to_read_back settings form max)) (owns settings form max [] slots))));
-        each = inputs settings form max slots [] [] start ran.cut.each;
+        each = inputs settings form max agree slots [] [] start ran.cut.each;
         few = omega (arith, many, ran.slots);
         longest = λ below x rest fits e. no_more x rest fits.0 e;
       };
-      closes = ap audit_status (sym (none_refused settings form max slots [] [] start ran.cut.each));
+      closes = ap audit_status (sym (none_refused settings form max agree slots [] [] start ran.cut.each));
       slots = ran.slots ∙ sym many;
-      output = lines settings form max slots [] [] start ran.cut.each ∙ ap (λ n. flat_map (λ slot. verdict_line slot Agrees) (range_with_len 0 n)) (sym ran.slots);
+      output = lines settings form max agree slots [] [] start ran.cut.each ∙ ap (λ n. flat_map (λ slot. verdict_line slot Agrees) (range_with_len 0 n)) (sym ran.slots);
     }

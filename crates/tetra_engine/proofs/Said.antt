@@ -1,10 +1,9 @@
 -- What an end says of its words and of the number of its slots, over any source.
-use Rattle.std.proofs.Common.{◌≡◌, ◌≢◌, ◌⊎◌, ℕ, ◌+◌, ◌<◌, ◌≤◌, ◌==◌, List, [], ◌∷◌, ◌++◌, length, refl, ap, sym, ◌∙◌, inl, inr, subst, arith, length-append, Option, Bool, true, false, MatchBool, nat_lt, Ok, Err, Result, IsTrue, take, if◌then◌else◌}
+use Rattle.std.proofs.Common.{◌≡◌, ◌⊎◌, ℕ, ◌+◌, ◌<◌, ◌≤◌, ◌==◌, List, [], ◌∷◌, ◌++◌, length, refl, sym, inl, inr, subst, arith, length-append, Option, Bool, true, false, MatchBool, nat_lt, Ok, IsTrue, take, if◌then◌else◌}
 use Rattle.std.proofs.lemmas.Bool.{eqb-true}
 use Rattle.tetra_settings.specs.declared.types.Command.{Command}
 use Rattle.tetra_settings.specs.declared.types.Command.TheVariants.{Encode, Decode, Audit, Gen, Trial}
 use Rattle.tetra_settings.specs.declared.types.Settings.{Settings}
-use Rattle.tetra_settings.specs.declared.types.WordFault.{WordFault}
 use Rattle.tetra_settings.specs.declared.types.WordWhy.{WordWhy}
 use Rattle.tetra_records.specs.declared.faults.RecordFault.{RecordFault}
 use Rattle.tetra_records.specs.declared.faults.RecordFault.TheVariants.{Truncated}

@@ -1,61 +1,81 @@
--- What decoding reads of slots that encoding wrote: the blocks, where the slots arrive undamaged.
-use Rattle.std.specs.Prelude.{◌≡◌, ℕ, ◌≤◌, List, [], ◌∷◌, ◌++◌, length, ⊤}
-use Rattle.std.specs.List.{concat, flat_map}
+-- What decoding reads of slots that encoding wrote: of each slot that arrives undamaged its blocks, whatever became of
+-- the others.
+use Rattle.std.specs.Prelude.{◌≡◌, ◌⊎◌, ℕ, ◌≤◌, List, [], ◌∷◌, ◌++◌, length, ⊤, IsTrue}
+use Rattle.std.specs.List.{concat}
 use Rattle.tetra_settings.specs.declared.blocks.SlotBlocks.{SlotBlocks}
 use Rattle.tetra_settings.specs.declared.readings.SlotReading.{SlotReading}
-use Rattle.tetra_settings.specs.declared.types.Form.TheVariants.{Plain}
+use Rattle.tetra_settings.specs.declared.types.Form.{Form}
 use Rattle.tetra_settings.specs.declared.types.Settings.{Settings}
 use Rattle.tetra_records.specs.Readings.{reading_spelling}
 use Rattle.tetra_session.specs.Arrives.{SlotRead}
 use Rattle.tetra_session.specs.Built.{IsBuilt}
-use Rattle.tetra_session.specs.Sent.{slot_written}
-use Rattle.tetra_session.specs.Undamaged.{KeepsSlot}
+use Rattle.tetra_session.specs.Sent.{slot_written, KeepsSlot}
 use Rattle.tetra_engine.specs.declared.status.Status.TheVariants.{Done}
 use Rattle.tetra_engine.specs.declared.status.End.{End}
 use Rattle.tetra_engine.specs.Agreeing.{to_read_back}
-use Rattle.tetra_engine.specs.Decoding.{decoding}
+use Rattle.tetra_engine.specs.Decoding.{decoding, framed}
 use Rattle.tetra_engine.specs.Encoding.{encoding}
+use Rattle.tetra_engine.specs.Framing.{is_built_slot}
 use Rattle.tetra_engine.specs.Outcomes.{Outcome}
-use Rattle.tetra_engine.specs.Slots.{soft_values}
+use Rattle.tetra_engine.specs.Slots.{soft_values, slot_bytes}
 
--- received slots, one for each of the blocks behind those before: of 510 bytes, and undamaged against the slot
--- that was written
-abbrev pub AreUndamaged : Settings → List SlotBlocks → List SlotBlocks → List (List ℕ) → Type 0
-AreUndamaged settings before [] [] = Unit {0}
-AreUndamaged settings before [] (slot ∷ slots) = ⊥
-AreUndamaged settings before (blocks ∷ more) [] = ⊥
-AreUndamaged settings before (blocks ∷ more) (slot ∷ slots) =
-    ((length slot ≡ 510) × KeepsSlot (slot_written settings before blocks) (soft_values slot))
-    × AreUndamaged settings (before ++ blocks ∷ []) more slots
+-- a received slot is undamaged against the one that was written for blocks behind those before
+abbrev pub IsKept : Settings → List SlotBlocks → SlotBlocks → List ℕ → Type 0
+IsKept settings before blocks slot = KeepsSlot settings before blocks (soft_values slot)
 
--- readings that name the blocks, one for each
-abbrev pub AreRead : List SlotBlocks → List SlotReading → Type 0
-AreRead [] [] = Unit {0}
-AreRead [] (reading ∷ readings) = ⊥
-AreRead (blocks ∷ more) [] = ⊥
-AreRead (blocks ∷ more) (reading ∷ readings) = SlotRead blocks reading × AreRead more readings
+-- Received slots, one for each of the blocks behind those before: each of 510 bytes, and undamaged or of a letter that
+-- is built.
+abbrev pub AreReceived : Settings → List SlotBlocks → List SlotBlocks → List (List ℕ) → Type 0
+AreReceived settings before [] [] = Unit {0}
+AreReceived settings before [] (slot ∷ slots) = ⊥
+AreReceived settings before (blocks ∷ more) [] = ⊥
+AreReceived settings before (blocks ∷ more) (slot ∷ slots) =
+    ((length slot ≡ 510) × (IsKept settings before blocks slot ⊎ IsTrue (is_built_slot settings (length before) slot)))
+    × AreReceived settings (before ++ blocks ∷ []) more slots
+
+-- one reading for each slot, which names the blocks of the slot where When says so
+abbrev pub AreRead : (List SlotBlocks → SlotBlocks → List ℕ → Type 0)
+    → List SlotBlocks → List SlotBlocks → List (List ℕ) → List SlotReading → Type 0
+AreRead When before [] [] [] = Unit {0}
+AreRead When before (blocks ∷ more) (slot ∷ slots) (reading ∷ readings) =
+    (When before blocks slot → SlotRead blocks reading) × AreRead When (before ++ blocks ∷ []) more slots readings
+AreRead When before blocks slots readings = ⊥
+
+-- the records of readings, each behind the bytes of its slot where they are to be audited
+abbrev pub records : Form → List (List ℕ) → List SlotReading → List ℕ
+records form (slot ∷ slots) (reading ∷ readings) =
+    framed form slot (reading_spelling form reading) ++ records form slots readings
+records form slots readings = []
 
 -- bytes that are the records of such readings
-pub record NameBlocks (blocks : List SlotBlocks) (bytes : List ℕ) : Type 0 where
+pub record NameBlocks (When : List SlotBlocks → SlotBlocks → List ℕ → Type 0) (form : Form)
+    (blocks : List SlotBlocks) (slots : List (List ℕ)) (bytes : List ℕ) : Type 0 where
   pub readings : List SlotReading
-  pub read : AreRead blocks readings
-  pub spelled : bytes ≡ flat_map (reading_spelling Plain) readings
+  pub read : AreRead When [] blocks slots readings
+  pub spelled : bytes ≡ records form slots readings
 
--- Decoding slots that arrived undamaged of a run of encoding in which no read and no write failed ends Done, with as
--- many slots, and names the blocks that were read.
-abbrev pub UndamagedIsDecoded : Type 0
-UndamagedIsDecoded =
-    (settings : Settings) (max : ℕ) (bytes : List ℕ) (end : End)
+-- Decoding what was received of a run of encoding in which no read and no write failed ends Done, with as many slots,
+-- and names the blocks of each slot that arrived undamaged.
+abbrev pub ReceivedIsDecoded : Type 0
+ReceivedIsDecoded =
+    (settings : Settings) (form : Form) (max : ℕ) (bytes : List ℕ) (end : End)
     (ran : Outcome (encoding settings) settings.max bytes (λ written. ⊤) end) (received : List (List ℕ))
-    → IsBuilt settings → end.slots ≤ max → AreUndamaged settings [] ran.xs received
-    → Outcome (decoding (to_read_back settings Plain max)) max (concat received) (NameBlocks ran.xs)
-    (record { status = Done; slots = end.slots })
+    → IsBuilt settings → end.slots ≤ max → AreReceived settings [] ran.xs received
+    → Outcome (decoding (to_read_back settings form max)) max (concat received)
+    (NameBlocks (IsKept settings) form ran.xs received) (record { status = Done; slots = end.slots })
 
--- The same of the bytes that encoding wrote.
+-- the bytes of the slots that are written for blocks behind those before
+abbrev pub slots_for : Settings → List SlotBlocks → List SlotBlocks → List (List ℕ)
+slots_for settings before [] = []
+slots_for settings before (blocks ∷ more) =
+    slot_bytes (slot_written settings before blocks) ∷ slots_for settings (before ++ blocks ∷ []) more
+
+-- Decoding the bytes that encoding wrote names the blocks of all slots.
 abbrev pub EncodedIsDecoded : Type 0
 EncodedIsDecoded =
-    (settings : Settings) (max : ℕ) (bytes written : List ℕ) (end : End)
+    (settings : Settings) (form : Form) (max : ℕ) (bytes written : List ℕ) (end : End)
     (ran : Outcome (encoding settings) settings.max bytes (λ output. output ≡ written) end)
     → IsBuilt settings → end.slots ≤ max
-    → Outcome (decoding (to_read_back settings Plain max)) max written (NameBlocks ran.xs)
+    → Outcome (decoding (to_read_back settings form max)) max written
+    (NameBlocks (λ before blocks slot. ⊤) form ran.xs (slots_for settings [] ran.xs))
     (record { status = Done; slots = end.slots })

@@ -1,5 +1,5 @@
 -- What an intake of slots stands for, and what it reads.
-use Rattle.std.specs.Prelude.{◌≡◌, ℕ, ◌<◌, ℤ, List, length, Bool, false, Ok, Err, Result, IsTrue}
+use Rattle.std.specs.Prelude.{◌≡◌, ℕ, ◌<◌, ℤ, List, length, false, Ok, Err, Result, IsTrue}
 use Rattle.std.specs.Io.KnownBytes.{Consumes, IsAtEnd}
 use Rattle.std.specs.declared.option.Option.{Option}
 use Rattle.tetra_bits.specs.Soft.{AllSoft}

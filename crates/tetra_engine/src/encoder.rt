@@ -9,7 +9,7 @@ use crate::slots::write_values;
 use crate::status::Status;
 use crate::work::{Stop, Work};
 use tetra_io::{Sink, SinkFault, Source, put_all};
-use tetra_records::{NextFault, next_record};
+use tetra_records::{NextFault, next_record, records_are_unambiguous};
 use tetra_session::{Sender, is_built_letter};
 use tetra_settings::{Settings, SlotBlocks};
 
@@ -61,6 +61,8 @@ impl Work for Encoder {
         match next_record(src, &self.settings, slot) {
             Ok(Some(blocks)) => {
                 if !is_built_letter(blocks.body.letter().byte()) {
+                    // So no record of a letter that is built begins these bytes.
+                    records_are_unambiguous();
                     return Err(Stop::NotBuilt);
                 }
                 self.blocks = Some(blocks);

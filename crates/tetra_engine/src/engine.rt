@@ -61,8 +61,8 @@ fn run_command<S: Source, K: Sink>(
 pub fn run<S: Source, K: Sink>(words: &[String], src: &mut S, sink: &mut K) -> End
     // Faulty words give Words, and words that are not built give NotBuilt. Then source and sink are as they were.
     ensures starts { Starts (meaning (texts words.now)) (src.new ≡ src.old) (sink.new ≡ sink.old) result }
-    // Each other end is the one that the bytes define, with its output, or what stands after a fault. The bytes are those
-    // that the source tells, and some where it tells none.
+    // Each other end is the one that the bytes define, with its output, or what stands after a fault. The bytes are
+    // those that the source tells, and some where it tells none.
     ensures ends { IfReady (meaning (texts words.now)) (λ command settings.
         CommandEnds command settings (S.rest src.old) (S.rest src.new) (K.taken sink.old) (K.taken sink.new) result) }
     // Whatever the source tells, the words have the fault that Words names, and the slots are within what they allow.

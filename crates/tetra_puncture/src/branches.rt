@@ -149,7 +149,7 @@ pub fn branch_costs<P: Plan>(wide: &Wide, labels: &Labels, t: usize) -> BranchCo
 
 /// The costs of the branches with `bit`, by the state that they leave.
 fn costs_with(costs: &[u32; 16], labels: &Labels, bit: bool) -> [u32; 16]
-    requires { (s : ℕ) → s < 16 → label_at labels.now s bit < 16 }
+    requires { (s : ℕ) (b : Bool) → s < 16 → label_at labels.now s b < 16 }
     ensures { (s : ℕ) → s < 16 → slice_index result s ≡ slice_index costs.now (label_at labels.now s bit) }
 {
     let mut all = [0; 16];

@@ -10,7 +10,7 @@ use Rattle.tetra_settings.specs.declared.types.Settings.{Settings}
 use Rattle.tetra_settings.specs.declared.slots.Letter.{Letter}
 use Rattle.tetra_settings.specs.declared.blocks.SlotBlocks.{SlotBlocks}
 use Rattle.tetra_settings.specs.Slots.{byte_of, letters, letter_of_byte}
-use Rattle.tetra_settings.specs.Blocks.{letter_of, HasLengths, FitsAccess, Fits}
+use Rattle.tetra_settings.specs.Blocks.{letter_of, HasLengths, FitsAccess}
 use Rattle.tetra_records.specs.declared.faults.RecordFault.TheVariants.{UnknownKind, WrongKind, PadBit, Truncated}
 use Rattle.tetra_records.specs.declared.faults.NextFault.{NextFault}
 use Rattle.tetra_records.specs.declared.faults.NextFault.TheVariants.{Source, Bad}

@@ -1,5 +1,5 @@
 -- What a sender sends by what it keeps.
-use Rattle.std.proofs.Common.{ℕ, ℤ, ◌≡◌, Bool, List, length, Option, refl}
+use Rattle.std.proofs.Common.{ℕ, ◌≡◌, Bool, List, length, Option, refl}
 use Rattle.tetra_bursts.specs.Bursts.{sync_down_slot, control_up_slot}
 use Rattle.tetra_scramble.specs.Key.{key_of}
 use Rattle.tetra_settings.specs.Slots.{mode_of}

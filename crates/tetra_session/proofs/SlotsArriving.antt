@@ -1,12 +1,11 @@
 -- What is read of undamaged slots.
-use Rattle.std.proofs.Common.{ℕ, ℤ, ◌≡◌, ◌+◌, ◌-◌, ◌*◌, ◌^◌, ◌<◌, Bool, true, false, List, [], ◌∷◌, ◌++◌, length, map, get_or, take, drop, cond, Option, Some, None, IfSome, arith, refl, ap, sym, subst, ◌∙◌}
+use Rattle.std.proofs.Common.{ℕ, ℤ, ◌≡◌, ◌+◌, ◌<◌, Bool, true, false, List, ◌++◌, length, map, get_or, take, drop, Option, Some, None, IfSome, arith, refl, ap, sym, subst, ◌∙◌}
 use Rattle.std.proofs.lemmas.List.{length-take-le, length-drop, take-append-drop}
 use Rattle.tetra_bits.specs.Digits.{digits}
 use Rattle.tetra_bits.specs.Numbered.{length-numbered}
 use Rattle.tetra_bits.specs.Undamaged.{IsUndamaged}
-use Rattle.tetra_bits.specs.declared.reading.Mark.TheVariants.{Good, Unchecked}
-use Rattle.tetra_bits.specs.declared.reading.Reading.{Reading}
-use Rattle.tetra_bursts.specs.Arrives.{FieldsArrive, KindArrives, KeepsNormalDown, KeepsSyncDown, KeepsNormalUp, KeepsControlUp}
+use Rattle.tetra_bits.specs.declared.reading.Mark.TheVariants.{Unchecked}
+use Rattle.tetra_bursts.specs.Arrives.{FieldsArrive, KindArrives, KeepsControlUp}
 use Rattle.tetra_bursts.specs.Bursts.{blocks_down, blocks_up, synchronisation}
 use Rattle.tetra_bursts.specs.Kind.{kind}
 use Rattle.tetra_bursts.specs.Fields.{first_half, second_half, sync_field, aach_field, aach_sync, sub_first, sub_second}
@@ -14,14 +13,12 @@ use Rattle.tetra_bursts.specs.declared.table.Train.{Train}
 use Rattle.tetra_bursts.specs.declared.table.Train.TheVariants.{N, P as PTrain, Y}
 use Rattle.tetra_bursts.specs.lemmas.Joined.{undamaged_both}
 use Rattle.tetra_channels.specs.Channels.{Channel, bsch, hu, half, full, message_of, type4_bits, type5_bits, front_values, raw_bits, access_bits}
-use Rattle.tetra_channels.specs.Fields.{coded_reading, raw_reading, access_reading}
+use Rattle.tetra_channels.specs.Fields.{coded_reading}
 use Rattle.tetra_channels.specs.Laws.{UndamagedIsRead, UndamagedRawIsRead, UndamagedAccessIsRead, written_reading, written_plain}
 use Rattle.tetra_interleave.specs.Placed.{placed}
 use Rattle.tetra_parity.specs.Marks.{good_mark}
 use Rattle.tetra_parity.specs.Parity.{width}
-use Rattle.tetra_rm.specs.Code.{access_word}
 use Rattle.tetra_rm.specs.lemmas.Words.{length-access_word}
-use Rattle.tetra_scramble.specs.Flips.{turned, flipped}
 use Rattle.tetra_scramble.specs.Key.{key_of, zero_key_bits}
 use Rattle.tetra_scramble.specs.lemmas.Entries.{length-flipped}
 use Rattle.tetra_settings.specs.Slots.{byte_of, use_of, mode_of}
@@ -49,7 +46,7 @@ use Rattle.tetra_session.specs.Heard.{allowed_in, letter_by, letter_heard, field
 use Rattle.tetra_session.specs.Sent.{KeepsSlot, KeepsSlotOf, access_of, burst_of, subslot_bits}
 use Rattle.tetra_session.specs.declared.spots.Spot.{Spot}
 use Rattle.tetra_session.specs.declared.spots.Spot.TheVariants.{Access, SyncAccess, Sync as SyncSpot, FirstBlock, SecondBlock, WholeSlot, FirstSubslot, SecondSubslot}
-use Rattle.tetra_session.specs.Arrives.{HasField, SubslotRead, BlocksRead, AccessRead, SlotRead, SlotsArrive}
+use Rattle.tetra_session.specs.Arrives.{HasField, SubslotRead, SlotRead, SlotsArrive}
 use Rattle.tetra_session.proofs.Fitting.{fits_full, fits_halves, fits_sync, fits_raw, fits_control, access_there, access_none}
 
 -- how many type-5 bits there are
@@ -176,7 +173,7 @@ module _ (laws : Laws) (settings : Settings) (history : List SlotBlocks) (blocks
         fields = rw (e, there.1) (
           access_read F there.0 refl d letter there.2 parts.access,
           coded_field full laws.full_read key block (first_half true received ++ second_half true received) reading 1 FullName (field_at Dl FullName WholeSlot)
-          (λ other. ap (λ xs. get_or xs 1 other) (items Dl F d letter)) refl refl (omega (arith, fit.1)) (joined word size _ _ parts.block_1 parts.block_2),
+              (λ other. ap (λ xs. get_or xs 1 other) (items Dl F d letter)) refl refl (omega (arith, fit.1)) (joined word size _ _ parts.block_1 parts.block_2),
         );
       }
 
@@ -194,8 +191,8 @@ module _ (laws : Laws) (settings : Settings) (history : List SlotBlocks) (blocks
       record {
         letter = lettered F letter ∙ sym (ap (λ b. byte_of (letter_of b)) e);
         fields = rw (e, none)
-          (coded_field full laws.full_read key block (first_half false received ++ second_half false received) reading 0 FullName (field_at Ul FullName WholeSlot)
-          (λ other. ap (λ xs. get_or xs 0 other) (items Ul F d letter)) refl refl (omega (arith, fit.1)) (joined word size _ _ parts.block_1 parts.block_2));
+            (coded_field full laws.full_read key block (first_half false received ++ second_half false received) reading 0 FullName (field_at Ul FullName WholeSlot)
+            (λ other. ap (λ xs. get_or xs 0 other) (items Ul F d letter)) refl refl (omega (arith, fit.1)) (joined word size _ _ parts.block_1 parts.block_2));
       }
 
   -- two half slots
@@ -216,10 +213,12 @@ module _ (laws : Laws) (settings : Settings) (history : List SlotBlocks) (blocks
         letter = lettered H letter ∙ sym (ap (λ b. byte_of (letter_of b)) e);
         fields = rw (e, there.1) (
           access_read H there.0 refl d letter there.2 parts.access,
-          (coded_field half laws.half_read key first (first_half true received) reading 1 HalfName (field_at Dl HalfName FirstBlock)
-          (λ other. ap (λ xs. get_or xs 1 other) (items Dl H d letter)) refl refl (omega (arith, fit.2)) parts.block_1,
-          coded_field half laws.half_read key second (second_half true received) reading 2 HalfName (field_at Dl HalfName SecondBlock)
-          (λ other. ap (λ xs. get_or xs 2 other) (items Dl H d letter)) refl refl (omega (arith, fit.3)) parts.block_2),
+          (
+            coded_field half laws.half_read key first (first_half true received) reading 1 HalfName (field_at Dl HalfName FirstBlock)
+                (λ other. ap (λ xs. get_or xs 1 other) (items Dl H d letter)) refl refl (omega (arith, fit.2)) parts.block_1,
+            coded_field half laws.half_read key second (second_half true received) reading 2 HalfName (field_at Dl HalfName SecondBlock)
+                (λ other. ap (λ xs. get_or xs 2 other) (items Dl H d letter)) refl refl (omega (arith, fit.3)) parts.block_2,
+          ),
         );
       }
 
@@ -241,10 +240,12 @@ module _ (laws : Laws) (settings : Settings) (history : List SlotBlocks) (blocks
         letter = lettered S letter ∙ sym (ap (λ b. byte_of (letter_of b)) e);
         fields = rw (e, there.1) (
           sync_access_read there.0 d letter there.2 parts.access,
-          (coded_field bsch laws.bsch_read zero_key_bits sync (sync_field received) reading 1 SyncName (field_at Dl SyncName SyncSpot)
-          (λ other. ap (λ xs. get_or xs 1 other) (items Dl S d letter)) refl refl (omega (arith, fit.2)) parts.synchronisation,
-          coded_field half laws.half_read key second (second_half true received) reading 2 HalfName (field_at Dl HalfName SecondBlock)
-          (λ other. ap (λ xs. get_or xs 2 other) (items Dl S d letter)) refl refl (omega (arith, fit.3)) parts.block_2),
+          (
+            coded_field bsch laws.bsch_read zero_key_bits sync (sync_field received) reading 1 SyncName (field_at Dl SyncName SyncSpot)
+                (λ other. ap (λ xs. get_or xs 1 other) (items Dl S d letter)) refl refl (omega (arith, fit.2)) parts.synchronisation,
+            coded_field half laws.half_read key second (second_half true received) reading 2 HalfName (field_at Dl HalfName SecondBlock)
+                (λ other. ap (λ xs. get_or xs 2 other) (items Dl S d letter)) refl refl (omega (arith, fit.3)) parts.block_2,
+          ),
         );
       }
 
@@ -267,8 +268,8 @@ module _ (laws : Laws) (settings : Settings) (history : List SlotBlocks) (blocks
         fields = rw (e, there.1) (
           access_read T there.0 refl d letter there.2 parts.access,
           plain_field reading 1 D72Name (field_at Dl D72Name WholeSlot) load
-          (λ other. ap (λ xs. get_or xs 1 other) (items Dl T d letter) ∙ ap (λ m. get_or (map (read_field rows) (map (field_heard Dl key received) (places_of Dl T m))) 1 other) mode) refl
-          (laws.raw_read key load (first_half true received ++ second_half true received) (joined word size _ _ parts.block_1 parts.block_2)),
+              (λ other. ap (λ xs. get_or xs 1 other) (items Dl T d letter) ∙ ap (λ m. get_or (map (read_field rows) (map (field_heard Dl key received) (places_of Dl T m))) 1 other) mode) refl
+              (laws.raw_read key load (first_half true received ++ second_half true received) (joined word size _ _ parts.block_1 parts.block_2)),
         );
       }
 
@@ -287,9 +288,9 @@ module _ (laws : Laws) (settings : Settings) (history : List SlotBlocks) (blocks
       record {
         letter = lettered T letter ∙ sym (ap (λ b. byte_of (letter_of b)) e);
         fields = rw (e, none)
-          (plain_field reading 0 D72Name (field_at Ul D72Name WholeSlot) load
-          (λ other. ap (λ xs. get_or xs 0 other) (items Ul T d letter) ∙ ap (λ m. get_or (map (read_field rows) (map (field_heard Ul key received) (places_of Ul T m))) 0 other) mode) refl
-          (laws.raw_read key load (first_half false received ++ second_half false received) (joined word size _ _ parts.block_1 parts.block_2)));
+            (plain_field reading 0 D72Name (field_at Ul D72Name WholeSlot) load
+            (λ other. ap (λ xs. get_or xs 0 other) (items Ul T d letter) ∙ ap (λ m. get_or (map (read_field rows) (map (field_heard Ul key received) (places_of Ul T m))) 0 other) mode) refl
+            (laws.raw_read key load (first_half false received ++ second_half false received) (joined word size _ _ parts.block_1 parts.block_2)));
       }
 
   -- control bursts

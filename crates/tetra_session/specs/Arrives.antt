@@ -2,6 +2,7 @@
 use Rattle.std.specs.Prelude.{◌≡◌, ℕ, ◌+◌, ℤ, Bool, List, length, slice_index_or, None, Some}
 use Rattle.std.specs.declared.option.Option.{Option}
 use Rattle.tetra_bits.specs.Digits.{digits}
+use Rattle.tetra_bits.specs.Soft.{AllSoft}
 use Rattle.tetra_bits.specs.declared.reading.Mark.{Mark}
 use Rattle.tetra_bits.specs.declared.reading.Mark.TheVariants.{Good, Unchecked}
 use Rattle.tetra_channels.specs.Channels.{bsch, hu, half, full, message_of}
@@ -16,7 +17,7 @@ use Rattle.tetra_settings.specs.declared.readings.FieldName.TheVariants.{Aach, S
 use Rattle.tetra_settings.specs.declared.readings.Field.{Field}
 use Rattle.tetra_settings.specs.declared.readings.SlotReading.{SlotReading}
 use Rattle.tetra_session.specs.Built.{IsBuilt, IsBuiltLetter}
-use Rattle.tetra_session.specs.Sent.{KeepsSlot}
+use Rattle.tetra_session.specs.Sent.{KeepsSlot, slot_written}
 use Rattle.tetra_session.specs.Heard.{slot_reading}
 
 -- field i of a reading, counted from 0: these bits without cost
@@ -63,3 +64,13 @@ SlotsArrive =
     → IsBuilt settings → Fits settings (length history) blocks → IsBuiltLetter (byte_of (letter_of blocks.body))
     → length earlier ≡ length history → KeepsSlot settings history blocks received
     → SlotRead blocks (slot_reading settings earlier received)
+
+-- a slot as it was written: 510 soft values, and undamaged
+pub record ArrivesAsWritten (settings : Settings) (history : List SlotBlocks) (blocks : SlotBlocks) : Type 0 where
+  pub size : length (slot_written settings history blocks) ≡ 510
+  pub soft : AllSoft (slot_written settings history blocks)
+  pub kept : KeepsSlot settings history blocks (slot_written settings history blocks)
+
+abbrev pub WrittenSlotsArrive : Type 0
+WrittenSlotsArrive = (settings : Settings) (history : List SlotBlocks) (blocks : SlotBlocks)
+    → ArrivesAsWritten settings history blocks

@@ -6,3 +6,4 @@ pub mod Places
 pub mod Values
 pub mod Plans
 pub mod Fields
+pub mod Written

@@ -1,8 +1,8 @@
 // Laws of what is sent and what is read.
 ghost use Rattle.tetra_session.specs.Apart.{HeardApart, SentApart};
-ghost use Rattle.tetra_session.specs.Arrives.{SlotsArrive};
+ghost use Rattle.tetra_session.specs.Arrives.{SlotsArrive, WrittenSlotsArrive};
 
-use tetra_bursts::{fields_arrive, kind_arrives};
+use tetra_bursts::{fields_arrive, kind_arrives, written_arrives};
 use tetra_channels::{Aach, Bsch, Full, Half, Hu, Raw72};
 
 /// A law: what is sent in a timeslot depends on no other timeslot. Settings that agree in direction, colour, rows of
@@ -31,4 +31,11 @@ pub fn slots_arrive()
     Aach::undamaged_is_read();
     fields_arrive();
     kind_arrives();
+}
+
+/// A law: a slot that is received as it was written is undamaged. It has 510 soft values.
+pub fn written_slots_arrive()
+    ensures { WrittenSlotsArrive }
+{
+    written_arrives();
 }

@@ -13,6 +13,6 @@ mod words;
 
 pub use built::{is_built, is_built_letter};
 pub use front::{Front, FrontField};
-pub use laws::{heard_apart, sent_apart, slots_arrive};
+pub use laws::{heard_apart, sent_apart, slots_arrive, written_slots_arrive};
 pub use receiver::Receiver;
 pub use sender::Sender;

@@ -62,7 +62,11 @@ impl Sender {
         self.turn += 1;
         let access = self.access(blocks.aach);
         match &blocks.body {
-            Body::Full { block } => self.whole(Train::N, &access, &Full::encode(block, &self.keys.colour)),
+            Body::Full { block } => self.whole(
+                Train::N,
+                &access,
+                &Full::encode(block, &self.keys.colour),
+            ),
             Body::Halves { first, second } => self.normal(
                 Train::P,
                 &Half::encode(first, &self.keys.colour),
@@ -74,7 +78,11 @@ impl Sender {
                 &access,
                 &Half::encode(half, &self.keys.colour),
             ),
-            Body::Traffic { load } => self.whole(Train::N, &access, &Raw72::encode(load, &self.keys.colour)),
+            Body::Traffic { load } => self.whole(
+                Train::N,
+                &access,
+                &Raw72::encode(load, &self.keys.colour),
+            ),
             Body::Control { first, second } => self.control(first.as_ref(), second.as_ref()),
             Body::Stolen { .. } | Body::Both { .. } => unreachable!(),
         }

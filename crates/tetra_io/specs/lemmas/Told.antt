@@ -1,5 +1,5 @@
 -- Bytes that a source may tell: what went of them, and what they are.
-use Rattle.std.proofs.Common.{◌≡◌, ℕ, List, [], ◌++◌, None, Some, refl, sym, ap, ◌∙◌, append_assoc, append-nil}
+use Rattle.std.proofs.Common.{ℕ, List, [], ◌++◌, None, Some, refl, sym, ap, ◌∙◌, append_assoc, append-nil}
 use Rattle.std.specs.declared.option.Option.{Option}
 use Rattle.std.specs.Io.KnownBytes.{Consumes, IsAtEnd}
 use Rattle.tetra_io.specs.Streams.{KeepsOrHides}
@@ -25,7 +25,8 @@ pub AreTold-end : (a : Option (List ℕ)) → IsAtEnd a → AreTold a []
 AreTold-end None e = tt
 AreTold-end (Some x) e = e
 
-pub AreTold-behind : (a b : Option (List ℕ)) (bs rest : List ℕ) → Consumes a b bs → AreTold b rest → AreTold a (bs ++ rest)
+pub AreTold-behind : (a b : Option (List ℕ)) (bs rest : List ℕ)
+    → Consumes a b bs → AreTold b rest → AreTold a (bs ++ rest)
 AreTold-behind None b bs rest p q = tt
 AreTold-behind (Some x) None bs rest p q = absurd p
 AreTold-behind (Some x) (Some y) bs rest p q = p ∙ ap (λ l. bs ++ l) q

@@ -3,7 +3,7 @@ use Rattle.tetra_audit.proofs.Tables.{no_rows, one_row, length-claimed_table}
 use Rattle.tetra_audit.proofs.claims.read_table.Goals as goal
 
 pub loop-t-init : goal.loop-t-init
-loop-t-init c = no_rows c.args.bytes.now c.resize.new.self c.resize.ensures
+loop-t-init c = no_rows c.args.bytes.now c.resize.new.self c.resize.ensures.len
 
 pub push-requires : goal.push-requires
 push-requires c = omega (arith, ap length c.loop-t.invariant, length-claimed_table c.args.bytes.now c.loop-t.t)

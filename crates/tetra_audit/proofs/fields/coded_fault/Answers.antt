@@ -1,36 +1,42 @@
 use Rattle.std.proofs.Common.{◌+◌, ◌-◌, ◌<◌, ◌∙◌, ℕ, get_or, arith, refl, sym, ap}
 use Rattle.tetra_cert.specs.Checked.{IsSound}
-use Rattle.tetra_channels.specs.Fields.{mark_of}
+use Rattle.tetra_channels.specs.Channels.{Channel}
+use Rattle.tetra_parity.specs.Marks.{mark_of}
+use Rattle.tetra_parity.specs.declared.kind.Parity.{Parity}
+use Rattle.tetra_puncture.specs.Plan.{CodePlan}
 use Rattle.tetra_puncture.specs.Best.{message_metric}
 use Rattle.tetra_puncture.specs.Certified.{IsCertified}
 use Rattle.tetra_audit.proofs.Testing.{coded_pad, coded_cert, coded_head}
 use Rattle.tetra_audit.proofs.fields.coded_fault.Goals as goal
 
+abbrev channel : Parity → ℕ → CodePlan → Channel
+channel parity a plan = record { parity = parity; a = a; plan = plan }
+
 pub returns-in_default : goal.returns-in_default
-returns-in_default g c =
+returns-in_default g c a =
     let steps = g.met.P.Plan.same_steps in
-    sym (coded_pad g.row.PAR g.P.Plan.plan c.args.soft.now c.args.bytes.now (3 + c.div_ceil-behind.result) (c.STEPS-len.result - 4)
+    sym (coded_pad (channel c.args.parity a g.P.Plan.plan) c.args.soft.now c.args.bytes.now (3 + c.div_ceil-behind.result) (c.STEPS-len.result - 4)
     (omega (arith, steps, c.STEPS-len.ensures)) (omega (arith, steps, c.STEPS-len.ensures)) (c.in_default.ensures.pad.0 refl))
 
 pub returns-in-Refused : goal.returns-in-Refused
-returns-in-Refused g c =
+returns-in-Refused g c a =
     let steps = g.met.P.Plan.same_steps in
     let small : (q : ℕ) → get_or c.args.bytes.now q 0 < 256 = λ q. omega (arith, (c.type_inv.bytes q).fits) in
-    sym (coded_cert g.row.PAR g.P.Plan.plan c.args.soft.now c.args.bytes.now (3 + c.div_ceil-behind.result) (c.STEPS-len.result - 4)
+    sym (coded_cert (channel c.args.parity a g.P.Plan.plan) c.args.soft.now c.args.bytes.now (3 + c.div_ceil-behind.result) (c.STEPS-len.result - 4)
     (omega (arith, steps, c.STEPS-len.ensures)) (omega (arith, steps, c.STEPS-len.ensures))
     c.in-Ok.message c.read_table.new.table (c.STEPS.result + 1) small (omega arith) c.in-Ok.ensures.bits.0 c.in-Ok.ensures.bits.1 (omega (arith, steps, c.STEPS.ensures)) c.read_table.ensures.table
     c.in-Refused.step c.in-Refused.state c.in-Refused.rule c.in-Refused.ensures.value)
 
 pub returns : goal.returns
 unfolding IsSound
-returns g c =
+returns g c a =
     let steps = g.met.P.Plan.same_steps in
     let p = g.P.Plan.plan in
     let small : (q : ℕ) → get_or c.args.bytes.now q 0 < 256 = λ q. omega (arith, (c.type_inv.bytes q).fits) in
     let shown : IsCertified p c.args.soft.now c.in-Ok.message c.read_table.new.table = c.in_default-check.ensures.sound in
-    c.head_fault.ensures ∙ coded_head g.row.PAR p c.args.soft.now c.args.bytes.now (3 + c.div_ceil-behind.result) (c.STEPS-len.result - 4)
+    c.head_fault.ensures ∙ coded_head (channel c.args.parity a p) c.args.soft.now c.args.bytes.now (3 + c.div_ceil-behind.result) (c.STEPS-len.result - 4)
     (omega (arith, steps, c.STEPS-len.ensures)) (omega (arith, steps, c.STEPS-len.ensures))
     c.in-Ok.message c.read_table.new.table (c.STEPS.result + 1) small (omega arith) c.in-Ok.ensures.bits.0 c.in-Ok.ensures.bits.1 (omega (arith, steps, c.STEPS.ensures)) c.read_table.ensures.table
     c.at.result c.mark.result c.in_default-check.ensures.value
     (c.at.ensures ∙ (shown.metric_is ∙ ap (message_metric p c.args.soft.now) shown.is_best))
-    (c.mark.ensures ∙ ap (mark_of g.row.PAR) shown.is_best)
+    (c.mark.ensures.value ∙ ap (mark_of c.args.parity) shown.is_best)

@@ -1,5 +1,5 @@
-use Rattle.tetra_engine.proofs.OwnReadings.{undamaged_is_decoded, encoded_is_decoded}
+use Rattle.tetra_engine.proofs.OwnReadings.{received_is_decoded, encoded_is_decoded}
 use Rattle.tetra_engine.proofs.laws.encoded_is_decoded.Goals as goal
 
 pub returns : goal.returns
-returns c = record { undamaged = undamaged_is_decoded c.slots_arrive.ensures; as_written = encoded_is_decoded c.slots_arrive.ensures }
+returns c = record { received = received_is_decoded c.slots_arrive.ensures; as_written = encoded_is_decoded c.slots_arrive.ensures c.written_slots_arrive.ensures }

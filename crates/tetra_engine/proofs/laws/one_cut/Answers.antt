@@ -7,7 +7,7 @@ use Rattle.tetra_engine.proofs.Unambiguous.{one_slot, one_claimed}
 use Rattle.tetra_engine.proofs.laws.one_cut.Goals as goal
 
 pub returns-clause-encode : goal.returns-clause-encode
-returns-clause-encode c settings = one_cut (encoding settings) (one_record settings)
+returns-clause-encode c settings = one_cut (encoding settings) (one_record settings (c.records_are_unambiguous.ensures settings))
 
 pub returns-clause-decode : goal.returns-clause-decode
 returns-clause-decode c settings = one_cut (decoding settings) (one_slot settings)

@@ -8,7 +8,7 @@ use Rattle.tetra_engine.proofs.Unambiguous.{one_slot, one_claimed}
 use Rattle.tetra_engine.proofs.laws.one_end.Goals as goal
 
 pub returns-clause-encode : goal.returns-clause-encode
-returns-clause-encode c settings = one_end (encoding settings) (one_record settings) (encoding_decided settings)
+returns-clause-encode c settings = one_end (encoding settings) (one_record settings (c.records_are_unambiguous.ensures settings)) (encoding_decided settings)
 
 pub returns-clause-decode : goal.returns-clause-decode
 returns-clause-decode c settings = one_end (decoding settings) (one_slot settings) (λ before bytes s t a b. a ∙ sym b)

@@ -4,10 +4,10 @@ use Rattle.tetra_puncture.specs.lemmas.Outputs.{labels_small, cost_of_label}
 use Rattle.tetra_puncture.proofs.branches.branch_costs.Goals as goal
 
 pub costs_with-requires : goal.costs_with-requires
-costs_with-requires g c = λ s h. labels_small _ _ _ c.requires.labels s false h
+costs_with-requires g c = labels_small _ _ _ c.requires.labels
 
 pub costs_with-requires-2 : goal.costs_with-requires-2
-costs_with-requires-2 g c = λ s h. labels_small _ _ _ c.requires.labels s true h
+costs_with-requires-2 g c = labels_small _ _ _ c.requires.labels
 
 pub returns-clause-zero : goal.returns-clause-zero
 returns-clause-zero g c = λ s h.

@@ -1,7 +1,7 @@
-use Rattle.std.proofs.Common.{◌≡◌, length, false, ap, sym, subst, ◌∙◌}
+use Rattle.std.proofs.Common.{◌≡◌, length, false, ap, sym, ◌∙◌}
 use Rattle.tetra_bits.specs.Numbered.{length-numbered}
 use Rattle.tetra_interleave.specs.Block.{block_place}
-use Rattle.tetra_interleave.specs.Placed.{IsPlaced, placed}
+use Rattle.tetra_interleave.specs.Placed.{placed}
 use Rattle.tetra_scramble.specs.Flips.{flipped}
 use Rattle.tetra_scramble.specs.lemmas.Entries.{length-flipped, flipped_back}
 use Rattle.tetra_channels.specs.Channels.{coded, type3_bits, type4_bits, type5_bits}

@@ -1,7 +1,7 @@
 use Rattle.std.proofs.Common.{rules, arith, ◌≡◌, ◌∙◌, ap, sym, subst, length, ◌++◌, ◌∷◌, []}
 use Rattle.std.proofs.KnownBytes.{Consumes-trans}
 use Rattle.tetra_io.specs.Filling.{TakesFewer}
-use Rattle.tetra_session.specs.Heard.{ReceiverStands, slot_front}
+use Rattle.tetra_session.specs.Heard.{ReceiverStands}
 use Rattle.tetra_engine.specs.Auditing.{auditing, slots_of, front_at, refused_slots}
 use Rattle.tetra_engine.specs.Intake.{IntakeStands}
 use Rattle.tetra_engine.specs.Refusals.{Counts}

@@ -1,7 +1,10 @@
 use Rattle.std.proofs.Common.{sym, subst, ap, ◌∙◌, map, ◌++◌, ◌∷◌, []}
+use Rattle.std.specs.Prelude.{nat_abs}
+use Rattle.tetra_bits.specs.declared.soft.TheConstants.{SOFT_MAX}
 use Rattle.tetra_session.specs.Heard.{ReceiverStands}
 use Rattle.tetra_engine.specs.Slots.{soft_values}
 use Rattle.tetra_engine.proofs.Framed.{heard_more}
+use Rattle.tetra_engine.proofs.Small.{small_fields}
 use Rattle.tetra_engine.proofs.decoder.DecoderWork.write.Goals as goal
 
 pub returns-clause-stands : goal.returns-clause-stands
@@ -14,3 +17,8 @@ returns-clause-stands g c xs x holds =
         receiver = subst (λ h. ReceiverStands c.args.self.now.intake.settings h c.slot_into.new.self) given next;
       };
     }
+
+pub put_reading-requires-clause-small : goal.put_reading-requires-clause-small
+put_reading-requires-clause-small g c =
+    let (xs, x, holds) = c.requires in
+    small_fields _ (c.slot_into.ensures.bounded (nat_abs SOFT_MAX) holds.holds.soft)

@@ -11,7 +11,7 @@ returns-then-not-is_built_letter-clause-gives g c xs stands slot =
     let blocks = c.in-Ok-Some.blocks in
     let gives = rw c.in-Ok-Some.field-0-is at c.in-Ok-Some.ensures.gives in
     let unbuilt : is_built_letter (byte_of (letter_of blocks.body)) ≡ false = search rules in
-    unbuilt_record c.args.self.now.settings xs c.args.slot blocks _ _ slot gives.0 unbuilt gives.2 (spelling-some blocks)
+    unbuilt_record c.args.self.now.settings (c.records_are_unambiguous.ensures c.args.self.now.settings) xs c.args.slot blocks _ _ slot gives.0 unbuilt gives.2 (spelling-some blocks)
 
 pub returns-in-Err-Bad-clause-gives : goal.returns-in-Err-Bad-clause-gives
 returns-in-Err-Bad-clause-gives g c xs stands slot = bad_record c.args.self.now.settings xs c.args.slot c.in-Err-Bad.why _ _ slot (rw c.in-Err-Bad.field-0-is at c.in-Err-Bad.ensures.gives)

@@ -1,4 +1,4 @@
-use Rattle.std.proofs.Common.{rules, ◌≡◌, ◌∙◌, ap, sym, true, false, length, refl, arith}
+use Rattle.std.proofs.Common.{rules, ◌≡◌, ◌∙◌, ap, sym, true, false, length, refl}
 use Rattle.tetra_session.specs.Heard.{slot_letter}
 use Rattle.tetra_session.specs.Built.{is_built_letter}
 use Rattle.tetra_engine.specs.Framing.{is_built_slot}

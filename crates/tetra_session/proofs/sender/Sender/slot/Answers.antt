@@ -2,9 +2,8 @@ use Rattle.std.proofs.Common.{◌≡◌, sym, ap, refl, ◌∙◌, Bor, Option, 
 use Rattle.std.specs.Option.{option_copied, option_map}
 use Rattle.tetra_bits.specs.declared.bits.Bits.{Bits}
 use Rattle.tetra_bursts.specs.declared.table.Train.TheVariants.{N, P}
-use Rattle.tetra_scramble.specs.Key.{zero_key_bits}
 use Rattle.tetra_settings.specs.Slots.{mode_of}
-use Rattle.tetra_session.specs.Sent.{SlotBurst, Normal, Synchronisation, Subslots, burst_of, subslot_bits, whole, load_word}
+use Rattle.tetra_session.specs.Sent.{Normal, Synchronisation, Subslots, burst_of, subslot_bits, whole, load_word}
 use Rattle.tetra_session.proofs.Fitting.{fits_raw}
 use Rattle.tetra_session.proofs.Sending.{slot_is, slot_of_sync, slot_of_subs}
 use Rattle.tetra_session.proofs.sender.Sender.slot.Goals as goal

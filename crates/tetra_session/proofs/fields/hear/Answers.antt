@@ -4,10 +4,10 @@ use Rattle.tetra_session.proofs.fields.hear.Goals as goal
 
 pub returns-in-Aach-clause-size : goal.returns-in-Aach-clause-size
 returns-in-Aach-clause-size c =
-    ap length c.flip_soft_into.ensures ∙ length-turned c.spot_into.new.values c.args.keys.now.colour 1
+    ap length c.flip_soft_into.ensures ∙ length-turned c.spot_into.new.values c.args.keys.now.colour _
     ∙ c.spot_into.ensures.size ∙ c.requires.place.size
 
 pub returns-in-D72-clause-size : goal.returns-in-D72-clause-size
 returns-in-D72-clause-size c =
-    ap length c.flip_soft_into-in-D72.ensures ∙ length-turned c.spot_into.new.values c.args.keys.now.colour 1
+    ap length c.flip_soft_into-in-D72.ensures ∙ length-turned c.spot_into.new.values c.args.keys.now.colour _
     ∙ c.spot_into.ensures.size ∙ c.requires.place.size

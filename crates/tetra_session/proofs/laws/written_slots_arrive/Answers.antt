@@ -1,4 +1,4 @@
-use Rattle.std.proofs.Common.{Bool, List, Option}
+use Rattle.std.proofs.Common.{Bool, List}
 use Rattle.tetra_bursts.specs.Arrives.{WrittenArrives}
 use Rattle.tetra_settings.specs.declared.types.Dir.{Dir}
 use Rattle.tetra_settings.specs.declared.types.Dir.TheVariants.{Dl, Ul}

@@ -75,11 +75,26 @@ fn sent_and_read_back(rt: HostRuntime) -> Result<(), Fail> {
         let end = format!(in rt.alloc(); "0 {} ", row.slots)?;
         let words = format!(in rt.alloc(); "encode {}", row.words)?;
         let sent = run_over(rt.alloc(), &words, &blocks, SURE, 5_000)?;
-        assert_eq!(rt; sent.end.as_str(), end.as_str(), "{words} of {}", row.blocks);
-        assert_eq!(rt; sent.output.len(), 510 * row.slots, "{words} of {}", row.blocks);
+        assert_eq!(rt;
+            sent.end.as_str(),
+            end.as_str(),
+            "{words} of {}",
+            row.blocks
+        );
+        assert_eq!(rt;
+            sent.output.len(),
+            510 * row.slots,
+            "{words} of {}",
+            row.blocks
+        );
         let words = format!(in rt.alloc(); "decode {}", row.words)?;
         let read = run_over(rt.alloc(), &words, &sent.output, SURE, 5_000)?;
-        assert_eq!(rt; read.end.as_str(), end.as_str(), "{words} of {}", row.blocks);
+        assert_eq!(rt;
+            read.end.as_str(),
+            end.as_str(),
+            "{words} of {}",
+            row.blocks
+        );
         assert!(rt; read.output == readings, "{words} of {}", row.blocks);
     }
     Ok(())

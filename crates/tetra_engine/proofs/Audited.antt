@@ -14,14 +14,12 @@ use Rattle.std.proofs.lemmas.List.Elements.{All-map, All-weaker}
 use Rattle.tetra_settings.specs.Validity.{IsValid}
 use Rattle.tetra_settings.specs.declared.types.Dir.{Dir}
 use Rattle.tetra_session.specs.Built.{IsBuilt, IsBuiltLetter}
-use Rattle.tetra_session.specs.Heard.{slot_front, slot_letter, letter_heard, field_heard, fields_heard}
+use Rattle.tetra_session.specs.Heard.{slot_front, slot_letter, field_heard, fields_heard}
 use Rattle.tetra_session.specs.Spots.{FitsSpot, ArePlaces}
 use Rattle.tetra_session.specs.declared.spots.Place.{Place}
 use Rattle.tetra_session.specs.lemmas.Places.{are_places}
 use Rattle.tetra_session.specs.declared.front.Front.{Front}
-use Rattle.tetra_session.specs.declared.front.FrontField.{FrontField}
 use Rattle.tetra_settings.specs.declared.slots.Letter.{Letter}
-use Rattle.tetra_settings.specs.declared.slots.Letter.TheVariants.{F, H, S, T, P, Q, C}
 use Rattle.tetra_audit.specs.Fields.{IsAudited, claim_length}
 use Rattle.tetra_engine.specs.Framing.{is_built_slot}
 use Rattle.tetra_engine.specs.Auditing.{Claimed, auditing, slots_of, front_at, refused_by, refused_slots, verdict_at}

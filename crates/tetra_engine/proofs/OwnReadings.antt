@@ -1,12 +1,12 @@
 -- Decoding of slots that encoding wrote.
-use Prim.Native.Nat.{zero, suc}
+use Prim.Native.Nat.{suc}
 use Rattle.std.proofs.Common.{◌≡◌, ℕ, ◌-◌, ◌<◌, ◌≤◌, List, [], ◌∷◌, ◌++◌, length, map, true, false, IsTrue, nat_lt, nat_eq, ℤ, pos, negsuc, arith, refl, sym, ap, subst, inl, inr, ◌⊎◌, ◌∙◌, length-append, append-nil}
 use Rattle.std.proofs.lemmas.Bool.Decides.{nat_tests}
 use Rattle.std.proofs.lemmas.Int.{ints}
 use Rattle.std.proofs.lemmas.List.{length-map}
 use Rattle.std.specs.Bool.{⊤}
 use Rattle.std.specs.List.{concat}
-use Rattle.tetra_bits.specs.Soft.{IsSoft, AllSoft, soft_value, value_at}
+use Rattle.tetra_bits.specs.Soft.{IsSoft, AllSoft, soft_value}
 use Rattle.tetra_records.specs.Readings.{reading_spelling}
 use Rattle.tetra_session.specs.Arrives.{SlotRead, SlotsArrive, WrittenSlotsArrive}
 use Rattle.tetra_session.specs.Built.{is_built_letter, IsBuilt}

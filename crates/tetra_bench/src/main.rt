@@ -1,4 +1,5 @@
-//! Times the decoder and the checker on blocks of SCH/F: 288 steps, 432 soft values.
+//! Times the decoder and the checker on blocks of SCH/F, 288 steps and 432 soft values, and the decoder of the access
+//! code on its 30.
 //! `tetra_bench COUNT` prints one line for each, its name and the nanoseconds of a block; with no count
 //! it says how it is called and ends with 2.
 #![tactic(auto)]
@@ -15,17 +16,19 @@ use std::time::Instant;
 use tetra_bits::{Bits, Potentials, Soft};
 use tetra_cert::{Verdict, check};
 use tetra_puncture::{TwoThirds, keep};
+use tetra_rm::{decode, own_rows};
 use tetra_trellis::{solve, solve_into};
 
 type SchF = TwoThirds<288, 432>;
 
-/// Random soft values of a block.
-fn received(draw: u64) -> Soft
-    ensures { length result ≡ 432 }
+/// So many random soft values.
+fn received(draw: u64, size: usize) -> Soft
+    requires { size ≤ 432 }
+    ensures { length result ≡ size }
 {
     let mut words = Pcg32::new(draw, 1);
     let mut soft = Soft::new();
-    for _ in 0..432usize {
+    for _ in 0..size {
         let value = words.next_word() % 255;
         soft.push(value as i16 - 127);
     }
@@ -48,6 +51,7 @@ enum Work {
     SolveInto,
     Check,
     Keep,
+    Access,
 }
 
 impl Work {
@@ -57,12 +61,14 @@ impl Work {
             Work::SolveInto => "solve_into",
             Work::Check => "check",
             Work::Keep => "keep",
+            Work::Access => "access",
         }
     }
 
-    /// Does the work once, and answers a number that hangs on what it gave.
-    fn once(self, soft: &Soft, message: &mut Bits, potentials: &mut Potentials) -> u32
+    /// Does the work once, and answers a number that depends on what it gave.
+    fn once(self, soft: &Soft, access: &Soft, message: &mut Bits, potentials: &mut Potentials) -> u32
         requires soft { length soft.now ≡ 432 }
+        requires access { length access.now ≡ 30 }
         requires message { length message.old + 4 ≡ 288 }
         requires rows { length potentials.old ≡ 288 + 1 }
         ensures message { length message.new + 4 ≡ 288 }
@@ -76,6 +82,7 @@ impl Work {
                 Verdict::Refused { .. } => 0,
             },
             Work::Keep => ones(&keep::<SchF>(message)),
+            Work::Access => decode(&own_rows(), access).metric,
         }
     }
 }
@@ -90,11 +97,12 @@ fn timed<R: Clock>(rt: &R, work: Work, count: u32) -> anyhow::Result<u64> {
     let mut spent = 0u64;
     let mut sum = 0u32;
     for draw in 0..count {
-        let soft = received(u64::from(draw));
+        let soft = received(u64::from(draw), 432);
+        let access = received(u64::from(draw), 30);
         sum = sum.wrapping_add(solve_into::<SchF>(&soft, &mut message, &mut potentials));
         let start = Instant::now(rt)?;
         for _ in 0..REPEATS {
-            sum = sum.wrapping_add(work.once(&soft, &mut message, &mut potentials));
+            sum = sum.wrapping_add(work.once(&soft, &access, &mut message, &mut potentials));
         }
         let nanos = start.elapsed(rt)?.as_nanos();
         spent = spent.saturating_add(u64::try_from(nanos).unwrap_or(u64::MAX));
@@ -115,7 +123,7 @@ fn main(rt: HostRuntime) -> anyhow::Result<ExitCode> {
         eprintln!(rt; "usage: tetra_bench COUNT")?;
         return Ok(ExitCode::from(2));
     };
-    for work in [Work::Solve, Work::SolveInto, Work::Check, Work::Keep] {
+    for work in [Work::Solve, Work::SolveInto, Work::Check, Work::Keep, Work::Access] {
         println!(rt; "{} {}", work.name(), timed(&rt, work, count)?)?;
     }
     Ok(ExitCode::from(0))

@@ -1,5 +1,5 @@
-// No clause says that the letters of both directions, their layouts and their lengths are the ones that are written
-// down. These are blocks that were worked out by hand, sent and read back.
+// Blocks that were worked out by hand, sent and read back: that the letters of both directions, their layouts and their
+// lengths are the ones that are written down.
 use crate::bytes::bytes;
 use crate::runs::{SURE, run_over};
 use std::test::Fail;

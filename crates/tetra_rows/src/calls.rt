@@ -1,6 +1,5 @@
-// No clause says that the values of a byte, the keys, the sent places, the parity of SCH/F, the access code, the phase
-// pairs and the ties of the kinds are the ones that are written down.
-// These are values of single calls that were worked out by hand.
+// Values of single calls that were worked out by hand: bytes, keys, sent places, the parity of SCH/F, the access code,
+// the phase pairs and the ties of the kinds.
 use std::process::Abort;
 use tetra_bits::{Bits, Soft, cost, soft_of};
 use tetra_bursts::{Allowed, Train, kind, phase_pair};

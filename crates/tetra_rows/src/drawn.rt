@@ -1,5 +1,5 @@
-// No clause says that the code, the certificates and the verdicts are those of the plain sums and
-// rules. Blocks of drawn bits are sent and judged both ways.
+// Blocks of drawn bits, sent and judged both ways: the code beside plain sums, the certificates and the verdicts beside
+// plain rules.
 use crate::plain::{code, rules};
 use crate::runs::{SURE, run_over};
 use rand_core::utils::NextWord;

@@ -1,5 +1,5 @@
-// No clause says how often a run reads and flushes. Each call of a source or a sink fails in turn, and
-// what stands after it is known by counting.
+// How often a run reads and flushes: each call of a source or a sink fails in turn, and what stands after it is known by
+// counting.
 use crate::bytes::bytes;
 use crate::runs::{Ends, SURE, run_over};
 use std::process::Abort;

@@ -1,5 +1,4 @@
-// No clause says that letters, lengths, layouts and texts are the ones that are written down. These are runs that were
-// worked out by hand.
+// Runs that were worked out by hand: that letters, lengths, layouts and texts are the ones that are written down.
 use crate::bytes::bytes;
 use crate::runs::{Row, SURE, holds, run_over};
 use std::test::Fail;

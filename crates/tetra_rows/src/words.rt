@@ -1,5 +1,5 @@
-// No clause says that the keys, the values, the texts and the exit codes are the ones that are written down. Here each
-// first call of the source and of the sink would fail.
+// Words that end a run before it begins: that the keys, the values, the texts and the exit codes are the ones that are
+// written down. Each first call of the source and of the sink would fail.
 use crate::runs::{Ends, SURE, run_over};
 use std::test::Fail;
 

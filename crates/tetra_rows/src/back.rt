@@ -82,8 +82,8 @@ fn sent_and_read_back(rt: HostRuntime) -> Result<(), Fail> {
             row.blocks
         );
         assert_eq!(rt;
-            sent.output.len(),
-            510 * row.slots,
+            sent.output.len() / 510,
+            row.slots,
             "{words} of {}",
             row.blocks
         );

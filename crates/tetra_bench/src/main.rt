@@ -66,7 +66,13 @@ impl Work {
     }
 
     /// Does the work once, and answers a number that depends on what it gave.
-    fn once(self, soft: &Soft, access: &Soft, message: &mut Bits, potentials: &mut Potentials) -> u32
+    fn once(
+        self,
+        soft: &Soft,
+        access: &Soft,
+        message: &mut Bits,
+        potentials: &mut Potentials,
+    ) -> u32
         requires soft { length soft.now ≡ 432 }
         requires access { length access.now ≡ 30 }
         requires message { length message.old + 4 ≡ 288 }
@@ -123,7 +129,13 @@ fn main(rt: HostRuntime) -> anyhow::Result<ExitCode> {
         eprintln!(rt; "usage: tetra_bench COUNT")?;
         return Ok(ExitCode::from(2));
     };
-    for work in [Work::Solve, Work::SolveInto, Work::Check, Work::Keep, Work::Access] {
+    for work in [
+        Work::Solve,
+        Work::SolveInto,
+        Work::Check,
+        Work::Keep,
+        Work::Access,
+    ] {
         println!(rt; "{} {}", work.name(), timed(&rt, work, count)?)?;
     }
     Ok(ExitCode::from(0))

@@ -15,9 +15,9 @@ use Rattle.tetra_puncture.specs.Plan.{IsMessage, WordsDiffer, word}
 use Rattle.tetra_puncture.specs.lemmas.Undamaged.{length-word, undamaged_free, undamaged_is_best}
 use Rattle.tetra_rm.specs.Code.{access_word, UndamagedArrives}
 use Rattle.tetra_scramble.specs.Flips.{flipped, turned, FlippedBack, StaysUndamaged}
-use Rattle.tetra_channels.specs.Channels.{Channel, message_of, type3_bits, type4_bits, type5_bits, front_values, raw_bits, access_bits}
+use Rattle.tetra_channels.specs.Channels.{Channel, message_of, type3_bits, type4_bits, type5_bits, word_bits, front_values, raw_bits, access_bits}
 use Rattle.tetra_channels.specs.Fields.{coded_reading, raw_reading, access_reading}
-use Rattle.tetra_channels.specs.Laws.{written_reading, written_plain, UndamagedIsRead, UndamagedRawIsRead, UndamagedAccessIsRead}
+use Rattle.tetra_channels.specs.Laws.{written_reading, written_plain, UndamagedIsRead, UndamagedWordIsRead, UndamagedWordArrives, UndamagedRawIsRead, UndamagedAccessIsRead}
 use Rattle.tetra_channels.proofs.Sizes.{length-message_of}
 
 -- descrambled
@@ -27,27 +27,36 @@ undamaged_turned back stays x key soft u =
     subst (λ bits. IsUndamaged bits (turned soft key 1)) (back x key 1) (stays (flipped x key 1) soft key 1 u)
 
 -- from type 5 back to type 3
-undamaged_front : FlippedBack → StaysUndamaged → StayUndamaged → BlocksAreOneToOne → (inv : ℕ) (channel : Channel)
-    (key block : List Bool) (soft : List ℤ) → IsBlock channel.plan.sent channel.a inv
-    → IsUndamaged (type5_bits channel key block) soft
-    → IsUndamaged (type3_bits channel block) (front_values channel key soft)
-unfolding type5_bits type4_bits type3_bits front_values
-undamaged_front back stays placed one inv channel key block soft b u =
+pub undamaged_word_arrives : FlippedBack → StaysUndamaged → StayUndamaged → BlocksAreOneToOne → (inv : ℕ) (channel : Channel)
+    → IsBlock channel.plan.sent channel.a inv → UndamagedWordArrives channel
+unfolding word_bits front_values
+undamaged_word_arrives back stays placed one inv channel b key bits soft size u =
     let k = channel.plan.sent in
-    placed k (block_place k channel.a) (word channel.plan (message_of channel block)) (turned soft key 1)
-    (one k channel.a inv b) (length-word channel.plan (message_of channel block))
-    (undamaged_turned back stays _ key soft u)
+    placed k (block_place k channel.a) bits (turned soft key 1) (one k channel.a inv b) size (undamaged_turned back stays _ key soft u)
 
-pub undamaged_is_read : FlippedBack → StaysUndamaged → StayUndamaged → BlocksAreOneToOne → BlocksAreGood → (inv : ℕ)
-    (channel : Channel) → IsBlock channel.plan.sent channel.a inv → WordsDiffer channel.plan → UndamagedIsRead channel
+pub undamaged_word_is_read : BlocksAreGood → (channel : Channel) → WordsDiffer channel.plan → UndamagedWordIsRead channel
 unfolding coded_reading written_reading type3_bits message_of
-undamaged_is_read back stays placed one good inv channel b differ key block soft size u =
+undamaged_word_is_read good channel differ block values size front =
     let m = message_of channel block in
-    let values = front_values channel key soft in
-    let front : IsUndamaged (word channel.plan m) values = undamaged_front back stays placed one inv channel key block soft b u in
     let l : length m ≡ length block + width channel.parity = length-message_of channel block in
     let message : IsMessage channel.plan m = omega arith in
     rw (undamaged_is_best channel.plan values m differ message front, undamaged_free channel.plan values m front, good channel.parity block) refl
+
+-- the type-5 bits of a block are those of its type-3 bits
+block_word : (channel : Channel) (key block : List Bool) → type5_bits channel key block ≡ word_bits channel key (type3_bits channel block)
+unfolding type5_bits type4_bits word_bits
+block_word channel key block = refl
+
+length-type3 : (channel : Channel) (block : List Bool) → length (type3_bits channel block) ≡ channel.plan.sent
+unfolding type3_bits
+length-type3 channel block = length-word channel.plan (message_of channel block)
+
+pub undamaged_is_read : FlippedBack → StaysUndamaged → StayUndamaged → BlocksAreOneToOne → BlocksAreGood → (inv : ℕ)
+    (channel : Channel) → IsBlock channel.plan.sent channel.a inv → WordsDiffer channel.plan → UndamagedIsRead channel
+undamaged_is_read back stays placed one good inv channel b differ key block soft size u =
+    let arrived = undamaged_word_arrives back stays placed one inv channel b key (type3_bits channel block) soft (length-type3 channel block)
+    (subst (λ bits. IsUndamaged bits soft) (block_word channel key block) u) in
+    undamaged_word_is_read good channel differ block (front_values channel key soft) size arrived
 
 pub undamaged_raw_is_read : FlippedBack → StaysUndamaged → UndamagedRawIsRead
 unfolding raw_bits raw_reading written_plain best_plain

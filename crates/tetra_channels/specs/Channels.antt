@@ -59,6 +59,11 @@ type4_bits channel block = placed false channel.plan.sent (type4_place channel) 
 unfoldable pub type5_bits : Channel → List Bool → List Bool → List Bool
 type5_bits channel key block = flipped (type4_bits channel block) key 1
 
+-- the type-5 bits of a word of type-3 bits that is no block's own, as the slot words of protected data are:
+-- interleaved, and scrambled from key bit 1 on
+unfoldable pub word_bits : Channel → List Bool → List Bool → List Bool
+word_bits channel key word = flipped (placed false channel.plan.sent (type4_place channel) word) key 1
+
 -- received type-5 values in the order of type-3 bits: the signs turned where the key bit is 1, and the
 -- interleaver undone
 unfoldable pub front_values : Channel → List Bool → List ℤ → List ℤ

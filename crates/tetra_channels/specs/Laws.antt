@@ -8,7 +8,7 @@ use Rattle.tetra_parity.specs.Marks.{good_mark}
 use Rattle.tetra_parity.specs.Parity.{width}
 use Rattle.tetra_puncture.specs.ToGo.{potentials_of}
 use Rattle.tetra_scramble.specs.Flips.{turned}
-use Rattle.tetra_channels.specs.Channels.{Channel, message_of, type5_bits, front_values, raw_bits, access_bits}
+use Rattle.tetra_channels.specs.Channels.{Channel, message_of, type3_bits, type5_bits, word_bits, front_values, raw_bits, access_bits}
 use Rattle.tetra_channels.specs.Fields.{coded_reading, raw_reading, access_reading}
 
 -- the block with its parity, without cost, and Good where the channel has parity
@@ -28,6 +28,20 @@ UndamagedIsRead channel =
     → IsUndamaged (type5_bits channel key block) soft
     → coded_reading channel (front_values channel key soft)
     ≡ written_reading channel block (front_values channel key soft)
+
+-- so are values that have the signs of its type-3 bits
+abbrev pub UndamagedWordIsRead : Channel → Type 0
+UndamagedWordIsRead channel =
+    (block : List Bool) (soft : List ℤ) → length block + width channel.parity + 4 ≡ channel.plan.steps
+    → IsUndamaged (type3_bits channel block) soft
+    → coded_reading channel soft ≡ written_reading channel block soft
+
+-- values that have the signs of a word as it is sent have those of the word, in the order of type-3 bits
+abbrev pub UndamagedWordArrives : Channel → Type 0
+UndamagedWordArrives channel =
+    (key word : List Bool) (soft : List ℤ) → length word ≡ channel.plan.sent
+    → IsUndamaged (word_bits channel key word) soft
+    → IsUndamaged word (front_values channel key soft)
 
 -- plain bits without cost
 unfoldable pub written_plain : List Bool → Reading

@@ -5,9 +5,9 @@ ghost use Rattle.tetra_interleave.specs.Placed.{IsPlaced};
 ghost use Rattle.tetra_parity.specs.Marks.{IsMarked};
 ghost use Rattle.tetra_puncture.specs.Best.{IsFirstLeast};
 ghost use Rattle.tetra_scramble.specs.Flips.{flipped, turned};
-ghost use Rattle.tetra_channels.specs.Channels.{IsChannel, coded, parity_of, type3_bits, type5_bits, front_values};
+ghost use Rattle.tetra_channels.specs.Channels.{IsChannel, coded, parity_of, type3_bits, type5_bits, word_bits, front_values};
 ghost use Rattle.tetra_channels.specs.Fields.{coded_reading, IsSized, IsBoundedBy};
-ghost use Rattle.tetra_channels.specs.Laws.{UndamagedIsRead};
+ghost use Rattle.tetra_channels.specs.Laws.{UndamagedIsRead, UndamagedWordArrives, UndamagedWordIsRead};
 
 use crate::message::parity_of;
 use std::marker::PhantomData;
@@ -69,8 +69,19 @@ impl<const PAR: usize, const K3: usize, const A: usize, const INV: usize, P: Pla
             (flipped result key.now 1) }
         ensures size { length result ≡ K3 }
     {
-        let interleaved = Block::<K3, A, INV>::bits_out(&Self::type3(block));
-        flip_bits(&interleaved, key, 1)
+        Self::encode3(&Self::type3(block), key)
+    }
+
+    /// The type-5 bits of a word of `K3` type-3 bits, as the slot words of protected data are: interleaved, and
+    /// scrambled from key bit 1 on. There are `K3`.
+    pub fn encode3(word: &Bits, key: &Key) -> Bits
+        requires channel { IsChannel P.IsSound PAR K3 A INV P.plan }
+        requires size { length word.now ≡ K3 }
+        ensures bits { result ≡ word_bits (coded PAR A P.plan) key.now word.now }
+        ensures placed { IsPlaced false K3 (block_place K3 A) word.now (flipped result key.now 1) }
+        ensures size { length result ≡ K3 }
+    {
+        flip_bits(&Block::<K3, A, INV>::bits_out(word), key, 1)
     }
 
     /// Received type-5 values in the order of type-3 bits: descrambled, and the interleaver undone.
@@ -145,5 +156,25 @@ impl<const PAR: usize, const K3: usize, const A: usize, const INV: usize, P: Pla
         stay_undamaged();
         blocks_are_one_to_one();
         blocks_are_good();
+    }
+
+    /// Values that have the signs of the type-3 bits of a block, none of them 0, are read as that block in the same way.
+    pub fn undamaged_word_is_read()
+        requires { IsChannel P.IsSound PAR K3 A INV P.plan }
+        ensures { UndamagedWordIsRead (coded PAR A P.plan) }
+    {
+        blocks_are_good();
+    }
+
+    /// Values that have the signs of a word as it is sent, none of them 0, have those of the word in the order of
+    /// type-3 bits.
+    pub fn undamaged_word_arrives()
+        requires { IsChannel P.IsSound PAR K3 A INV P.plan }
+        ensures { UndamagedWordArrives (coded PAR A P.plan) }
+    {
+        flipped_back();
+        stays_undamaged();
+        stay_undamaged();
+        blocks_are_one_to_one();
     }
 }

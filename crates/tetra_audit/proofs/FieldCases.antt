@@ -9,7 +9,7 @@ use Rattle.tetra_bits.specs.Plain.{best_plain}
 use Rattle.tetra_bits.specs.declared.reading.Mark.TheVariants.{Unchecked, NotYet}
 use Rattle.tetra_bits.specs.declared.reading.Reading.{Reading}
 use Rattle.tetra_bits.specs.lemmas.Best.{best_is_first}
-use Rattle.tetra_channels.specs.Channels.{Channel, bsch, hu, half, full}
+use Rattle.tetra_channels.specs.Channels.{Channel, bsch, hu, half, full, data48, data24}
 use Rattle.tetra_channels.specs.Fields.{access_reading, coded_reading, raw_reading}
 use Rattle.tetra_rm.specs.Code.{access_metric, best_access}
 use Rattle.tetra_session.specs.Fronts.{IsFrontField}
@@ -135,8 +135,8 @@ by_cases rows Half (Some soft) is audited = inr (coded_is rows Half soft half re
 by_cases rows Hu (Some soft) is audited = inr (coded_is rows Hu soft hu refl is)
 by_cases rows Full (Some soft) is audited = inr (coded_is rows Full soft full refl is)
 by_cases rows D72 (Some soft) is audited = inl (raw_is rows soft is)
-by_cases rows D48 (Some soft) is audited = absurd audited
-by_cases rows D24 (Some soft) is audited = absurd audited
+by_cases rows D48 (Some soft) is audited = inr (coded_is rows D48 soft data48 refl is)
+by_cases rows D24 (Some soft) is audited = inr (coded_is rows D24 soft data24 refl is)
 by_cases rows Whole (Some soft) is audited = absurd audited
 by_cases rows Single (Some soft) is audited = absurd audited
 

@@ -5,7 +5,7 @@ use Rattle.std.proofs.lemmas.List.Elements.{All-map, All-weaker}
 use Rattle.std.proofs.lemmas.List.Sums.{sum_by-cons}
 use Rattle.std.proofs.lemmas.Simd.{map-map}
 use Rattle.std.specs.List.{All, flat_map}
-use Rattle.std.specs.Prelude.{IfSome, nat_abs}
+use Rattle.std.specs.Prelude.{IfSome, MatchOption, nat_abs}
 use Rattle.tetra_bits.specs.Numbered.{get_or-numbered}
 use Rattle.tetra_bits.specs.Packed.{packed}
 use Rattle.tetra_bits.specs.Readings.{entry, mark_byte}
@@ -24,24 +24,27 @@ use Rattle.tetra_puncture.specs.lemmas.OwnCosts.{costs_to_go_are_accepted}
 use Rattle.tetra_puncture.specs.lemmas.Shapes.{length-potentials_of, length-potential_row}
 use Rattle.tetra_records.specs.Readings.{two_bytes, certificate_bytes, field_bytes, reading_spelling}
 use Rattle.tetra_rm.specs.declared.table.Rows.{Rows}
+use Rattle.tetra_session.specs.Built.{IsBuiltName}
 use Rattle.tetra_session.specs.Fronts.{IsFrontField, IsFront, IsBounded}
-use Rattle.tetra_session.specs.Heard.{letter_heard, place_values, field_heard, fields_heard, slot_front, slot_reading}
+use Rattle.tetra_session.specs.Heard.{letter_heard, place_values, values_of, block_heard, field_heard, fields_heard, slot_front, slot_reading}
 use Rattle.tetra_session.specs.Readers.{reader, channel_of, field_reading, read_field, read_front}
 use Rattle.tetra_session.specs.Spots.{places_of, FitsSpot, ArePlaces}
 use Rattle.tetra_session.specs.declared.front.FrontField.{FrontField}
 use Rattle.tetra_session.specs.declared.front.Front.{Front}
 use Rattle.tetra_session.specs.declared.spots.Place.{Place}
-use Rattle.tetra_session.specs.lemmas.Fields.{field_bounded}
+use Rattle.tetra_session.specs.lemmas.Fields.{reading_bounded_of}
 use Rattle.tetra_session.specs.lemmas.Places.{are_places}
-use Rattle.tetra_session.specs.lemmas.Values.{place_size, place_within}
+use Rattle.tetra_session.specs.lemmas.Values.{place_size, place_within, values_size, values_within, block_size, block_within}
+use Rattle.tetra_settings.specs.Readings.{sizes, MayBeNotYet}
 use Rattle.tetra_settings.specs.Slots.{byte_of, mode_of}
+use Rattle.tetra_settings.specs.declared.readings.FieldName.{FieldName}
 use Rattle.tetra_settings.specs.declared.readings.Field.{Field}
 use Rattle.tetra_settings.specs.declared.slots.Letter.{Letter}
 use Rattle.tetra_settings.specs.declared.slots.Letter.TheVariants.{F, H, S, T, P, Q, C}
 use Rattle.tetra_settings.specs.declared.types.Dir.{Dir}
 use Rattle.tetra_settings.specs.declared.types.Form.TheVariants.{Audit}
 use Rattle.tetra_audit.specs.Agreement.{IsCertificate, AreCertified, IsRight, AreRight, AreBytes, OwnRecordsAgree}
-use Rattle.tetra_audit.specs.Fields.{IsAudited, field_length, claim_length}
+use Rattle.tetra_audit.specs.Fields.{IsAuditedAt, IsAudited, field_length, claim_length}
 use Rattle.tetra_audit.specs.Verdicts.{slot_verdict}
 use Rattle.tetra_audit.specs.declared.verdict.SlotVerdict.TheVariants.{Agrees}
 use Rattle.tetra_audit.proofs.FieldCases.{IsPlain, IsCoded, plain_or_coded}
@@ -165,49 +168,65 @@ module _ (rows : Rows) (front : Front) (top : ℕ) (few : top * 432 ≤ 65535) (
     }),
   )
 
--- the front of a slot
-module _ (law : FieldsHaveSizes) (rows : List ℕ) (dir : Dir) (key : List Bool) (soft : List ℤ) (size : length soft ≡ 510) (all : AllSoft soft) where
-  place_formed : (place : Place) → FitsSpot dir place → IsFrontField (field_heard dir key soft place)
-  unfolding field_heard
-  place_formed place fit = record { soft = place_size law dir key soft place fit size }
+-- a built field is audited, with values or without
+audited_at : (name : FieldName) (soft : Option (List ℤ)) → IsBuiltName name → IsAuditedAt name soft
+audited_at name None built = tt
+audited_at name (Some values) built = built
 
-  place_audited : (place : Place) → FitsSpot dir place → IsAudited (field_heard dir key soft place)
-  unfolding field_heard
-  place_audited place fit = fit.built
+-- the front of a slot, with the block that is complete, or none
+module _ (law : FieldsHaveSizes) (rows : List ℕ) (dir : Dir) (key : List Bool) (block : Option (List ℤ)) (soft : List ℤ) (size : length soft ≡ 510)
+    (whole : IfSome block (λ values. length values ≡ 432)) (of_block : IfSome block AllSoft) (all : AllSoft soft) where
+  abbrev values_at : Place → Option (List ℤ)
+  values_at place = values_of place.name block (place_values dir key soft place)
 
-  place_bounded : (place : Place) → FitsSpot dir place → IsBounded (nat_abs SOFT_MAX) (read_field rows (field_heard dir key soft place))
+  sized : (place : Place) → FitsSpot dir place → MatchOption (values_at place) (MayBeNotYet place.name) (λ values. length values ≡ (sizes place.name).values)
+  sized place fit = values_size place.name block (place_values dir key soft place) whole (place_size law dir key soft place fit size)
+
+  place_formed : (place : Place) → FitsSpot dir place → IsFrontField (field_heard dir key block soft place)
+  unfolding field_heard
+  place_formed place fit = record { soft = sized place fit }
+
+  place_audited : (place : Place) → FitsSpot dir place → IsAudited (field_heard dir key block soft place)
+  unfolding field_heard
+  place_audited place fit = audited_at place.name (values_at place) fit.built
+
+  place_bounded : (place : Place) → FitsSpot dir place → IsBounded (nat_abs SOFT_MAX) (read_field rows (field_heard dir key block soft place))
   unfolding field_heard read_field
   place_bounded place fit =
-      field_bounded (nat_abs SOFT_MAX) place.name rows (place_values dir key soft place) fit.built (place_size law dir key soft place fit size) (place_within (nat_abs SOFT_MAX) dir key soft place all)
+      reading_bounded_of (nat_abs SOFT_MAX) place.name rows (values_at place) fit.built (sized place fit)
+      (values_within (nat_abs SOFT_MAX) place.name block (place_values dir key soft place) of_block (place_within (nat_abs SOFT_MAX) dir key soft place all))
 
-  names : (places : List Place) → map (λ field. field.name) (map (field_heard dir key soft) places) ≡ map (λ place. place.name) places
+  names : (places : List Place) → map (λ field. field.name) (map (field_heard dir key block soft) places) ≡ map (λ place. place.name) places
   unfolding field_heard
-  names places = map-map (λ field. field.name) (field_heard dir key soft) places
+  names places = map-map (λ field. field.name) (field_heard dir key block soft) places
 
-  formed : (letter : Letter) (places : List Place) → ArePlaces dir letter places → IsFront (record { letter = byte_of letter; fields = record { items = map (field_heard dir key soft) places } })
+  formed : (letter : Letter) (places : List Place) → ArePlaces dir letter places → IsFront (record { letter = byte_of letter; fields = record { items = map (field_heard dir key block soft) places } })
   formed letter places are = record {
     row = rw (names places) are.row;
-    fields = All-map IsFrontField (field_heard dir key soft) places (All-weaker (FitsSpot dir) (λ place. IsFrontField (field_heard dir key soft place)) place_formed places are.fit);
+    fields = All-map IsFrontField (field_heard dir key block soft) places (All-weaker (FitsSpot dir) (λ place. IsFrontField (field_heard dir key block soft place)) place_formed places are.fit);
   }
 
-  all_audited : (letter : Letter) (places : List Place) → ArePlaces dir letter places → All IsAudited (map (field_heard dir key soft) places)
-  all_audited letter places are = All-map IsAudited (field_heard dir key soft) places (All-weaker (FitsSpot dir) (λ place. IsAudited (field_heard dir key soft place)) place_audited places are.fit)
+  all_audited : (letter : Letter) (places : List Place) → ArePlaces dir letter places → All IsAudited (map (field_heard dir key block soft) places)
+  all_audited letter places are = All-map IsAudited (field_heard dir key block soft) places (All-weaker (FitsSpot dir) (λ place. IsAudited (field_heard dir key block soft place)) place_audited places are.fit)
 
-  all_bounded : (letter : Letter) (places : List Place) → ArePlaces dir letter places → All (IsBounded (nat_abs SOFT_MAX)) (map (read_field rows) (map (field_heard dir key soft) places))
+  all_bounded : (letter : Letter) (places : List Place) → ArePlaces dir letter places → All (IsBounded (nat_abs SOFT_MAX)) (map (read_field rows) (map (field_heard dir key block soft) places))
   all_bounded letter places are =
-      All-map (IsBounded (nat_abs SOFT_MAX)) (read_field rows) (map (field_heard dir key soft) places)
-      (All-map (λ field. IsBounded (nat_abs SOFT_MAX) (read_field rows field)) (field_heard dir key soft) places
-      (All-weaker (FitsSpot dir) (λ place. IsBounded (nat_abs SOFT_MAX) (read_field rows (field_heard dir key soft place))) place_bounded places are.fit))
+      All-map (IsBounded (nat_abs SOFT_MAX)) (read_field rows) (map (field_heard dir key block soft) places)
+      (All-map (λ field. IsBounded (nat_abs SOFT_MAX) (read_field rows field)) (field_heard dir key block soft) places
+      (All-weaker (FitsSpot dir) (λ place. IsBounded (nat_abs SOFT_MAX) (read_field rows (field_heard dir key block soft place))) place_bounded places are.fit))
 
 pub own_records_agree : FieldsHaveSizes → OwnRecordsAgree
 unfolding slot_front slot_reading fields_heard
-own_records_agree law settings history soft valid built size all letter =
+own_records_agree law settings history soft valid built earlier size all letter =
     let t : ℕ = length history in
     let heard : Letter = letter_heard settings t soft in
     let places : List Place = places_of settings.dir heard (mode_of settings t) in
+    let block : Option (List ℤ) = block_heard settings history soft in
+    let whole : IfSome block (λ values. length values ≡ 432) = block_size settings history soft in
+    let within : IfSome block AllSoft = block_within (nat_abs SOFT_MAX) settings history soft earlier all in
     let are : ArePlaces settings.dir heard places = are_places settings t soft valid built letter in
     agrees settings.rows (slot_front settings history soft) (nat_abs SOFT_MAX) (omega arith)
-    (formed law settings.rows.0 settings.dir _ soft size all heard places are)
-    (all_audited law settings.rows.0 settings.dir _ soft size all heard places are)
-    (all_bounded law settings.rows.0 settings.dir _ soft size all heard places are)
+    (formed law settings.rows.0 settings.dir _ block soft size whole within all heard places are)
+    (all_audited law settings.rows.0 settings.dir _ block soft size whole within all heard places are)
+    (all_bounded law settings.rows.0 settings.dir _ block soft size whole within all heard places are)
     (letter_small heard)

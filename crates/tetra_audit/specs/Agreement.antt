@@ -77,10 +77,10 @@ AgreesExactly =
 abbrev pub own_record : Settings → List (List ℤ) → List ℤ → List ℕ
 own_record settings history soft = reading_spelling Audit (slot_reading settings history soft)
 
--- in a slot of 510 positions it has the length that is claimed for the slot, and agrees
+-- in a slot of 510 positions, after slots of soft values, it has the length that is claimed for the slot, and agrees
 abbrev pub OwnRecordsAgree : Type 0
 OwnRecordsAgree = (settings : Settings) (history : List (List ℤ)) (soft : List ℤ)
-    → IsValid settings → IsBuilt settings → length soft ≡ 510 → AllSoft soft
+    → IsValid settings → IsBuilt settings → All AllSoft history → length soft ≡ 510 → AllSoft soft
     → IsBuiltLetter (slot_letter settings (length history) soft)
     → (length (own_record settings history soft) ≡ claim_length (slot_front settings history soft))
     × (slot_verdict settings.rows (slot_front settings history soft) (own_record settings history soft) ≡ Agrees)

@@ -5,8 +5,8 @@ ghost use Rattle.tetra_audit.specs.Claims.{number_at, claimed_row, claimed_table
 
 use tetra_bits::Potentials;
 
-#[tactic(auto, unfolding(crate::specs::Claims::number_at))]
 /// The number of two bytes that stands behind `k` of them, the higher byte first.
+#[tactic(auto, unfolding(crate::specs::Claims::number_at))]
 fn number_at(bytes: &[u8], k: usize) -> u32
     requires { 2 * k + 1 < length bytes.now }
     ensures { result ≡ number_at bytes.now k }

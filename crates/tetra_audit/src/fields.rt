@@ -13,7 +13,7 @@ use crate::verdict::FieldWhy;
 use tetra_bits::{Bits, Mark, Potentials, Soft, pack, read_plain, unpack};
 use tetra_cert::{Verdict, check};
 use tetra_parity::{Parity, mark};
-use tetra_puncture::{Plan, TwoThirds};
+use tetra_puncture::{P148, P292, Plan, TwoThirds};
 use tetra_rm::{Rows, decode, message_bits};
 use tetra_session::FrontField;
 use tetra_settings::FieldName;
@@ -112,8 +112,9 @@ pub fn field_fault(
             bytes,
         );
     };
-    // That of the signalling channels.
+    // That of the signalling channels; data has none.
     let parity = Parity::Sixteen;
+    let none = Parity::Nothing;
     match field.name {
         FieldName::Aach => access_fault(rows, soft, bytes),
         FieldName::Sync => coded_fault::<TwoThirds<80, 120>>(parity, soft, bytes, potentials),
@@ -121,6 +122,8 @@ pub fn field_fault(
         FieldName::Hu => coded_fault::<TwoThirds<112, 168>>(parity, soft, bytes, potentials),
         FieldName::Full => coded_fault::<TwoThirds<288, 432>>(parity, soft, bytes, potentials),
         FieldName::D72 => plain_fault(&read_plain(soft), 0, Mark::Unchecked, bytes),
-        FieldName::D48 | FieldName::D24 | FieldName::Whole | FieldName::Single => unreachable!(),
+        FieldName::D48 => coded_fault::<P292>(none, soft, bytes, potentials),
+        FieldName::D24 => coded_fault::<P148>(none, soft, bytes, potentials),
+        FieldName::Whole | FieldName::Single => unreachable!(),
     }
 }

@@ -6,6 +6,7 @@ pub mod Audited
 pub mod Unambiguous
 pub mod Ends
 pub mod Encoded
+pub mod SoftSlots
 pub mod OwnAudits
 pub mod OwnReadings
 pub mod Said

@@ -1,5 +1,5 @@
 -- An audit of what decoding wrote with certificates.
-use Prim.Native.Nat.{zero, suc}
+use Prim.Native.Nat.{suc}
 use Rattle.std.proofs.Common.{◌≡◌, ℕ, ◌+◌, ◌-◌, ◌<◌, ◌≤◌, List, [], ◌∷◌, ◌++◌, length, map, Bool, true, false, IsTrue, cond, nat_lt, nat_eq, ℤ, pos, negsuc, arith, refl, sym, ap, subst, ◌∙◌, length-append, append-nil}
 use Rattle.std.proofs.lemmas.Bool.Decides.{nat_tests}
 use Rattle.std.proofs.lemmas.Int.{ints}
@@ -9,7 +9,7 @@ use Rattle.tetra_bits.specs.Soft.{IsSoft, AllSoft, soft_value}
 use Rattle.tetra_records.specs.Readings.{reading_spelling}
 use Rattle.tetra_settings.specs.Validity.{IsValid}
 use Rattle.tetra_session.specs.Built.{is_built_letter, IsBuilt, IsBuiltLetter}
-use Rattle.tetra_session.specs.Heard.{letter_heard, slot_letter, slot_front, slot_reading}
+use Rattle.tetra_session.specs.Heard.{letter_heard, slot_letter, block_heard, slot_front, slot_reading}
 use Rattle.tetra_settings.specs.Slots.{mode_of, use_of}
 use Rattle.tetra_settings.specs.declared.types.Form.{Form}
 use Rattle.tetra_settings.specs.declared.types.Form.TheVariants.{Audit}
@@ -27,20 +27,7 @@ use Rattle.tetra_engine.specs.Slots.{soft_values}
 use Rattle.tetra_engine.specs.Verdicts.{verdict_line}
 use Rattle.tetra_engine.proofs.Audited.{slots_more}
 use Rattle.tetra_engine.proofs.Framed.{heard_more}
-
--- every byte stands for a soft value
-soft_byte : (byte : ℕ) → IsSoft (soft_value byte)
-soft_byte byte = by_tests (nat_lt byte 128) (nat_eq byte 128) refl refl
-  where
-    by_tests : (low edge : Bool) → nat_lt byte 128 ≡ low → nat_eq byte 128 ≡ edge → IsSoft (cond low (pos byte) (cond edge (negsuc 126) (negsuc (255 - byte))))
-    by_tests true edge is_low is_edge = let below : byte < 128 = grind (arith, nat_tests) in (omega (arith, ints), omega (arith, ints))
-    by_tests false true is_low is_edge = (omega (arith, ints), omega (arith, ints))
-    by_tests false false is_low is_edge = let above : 129 ≤ byte = grind (arith, nat_tests) in (omega (arith, ints), omega (arith, ints))
-
-soft_slot : (slot : List ℕ) → AllSoft (soft_values slot)
-soft_slot [] k d within = absurd (omega arith)
-soft_slot (byte ∷ slot) zero d within = soft_byte byte
-soft_slot (byte ∷ slot) (suc k) d within = soft_slot slot k d (omega arith)
+use Rattle.tetra_engine.proofs.SoftSlots.{soft_slot, soft_slots}
 
 module _ (settings : Settings) (form : Form) (max : ℕ) where
   -- neither form nor number of slots has a part in what is read
@@ -49,7 +36,7 @@ module _ (settings : Settings) (form : Form) (max : ℕ) where
   letter_same t soft = refl
 
   front_same : (history : List (List ℤ)) (soft : List ℤ) → slot_front (to_read_back settings form max) history soft ≡ slot_front settings history soft
-  unfolding slot_front letter_heard use_of mode_of
+  unfolding slot_front block_heard letter_heard use_of mode_of
   front_same history soft = refl
 
   -- a slot with its own record, and slots with theirs
@@ -92,14 +79,14 @@ module _ (settings : Settings) (form : Form) (max : ℕ) where
 
       long : length (own_record settings (map soft_values before) (soft_values slot)) ≡ claim_length (front_at (to_read_back settings form max) claimed slot)
       long =
-          (agree settings (map soft_values before) (soft_values slot) valid settings_built (length-map slot soft_value ∙ size) (soft_slot slot) letter_built).0
+          (agree settings (map soft_values before) (soft_values slot) valid settings_built (soft_slots before) (length-map slot soft_value ∙ size) (soft_slot slot) letter_built).0
           ∙ ap claim_length (sym front_is)
 
       agrees : verdict_at (to_read_back settings form max) claimed (own before slot) ≡ Agrees
       unfolding own
       agrees =
           ap (λ front. slot_verdict settings.rows front (own_record settings (map soft_values before) (soft_values slot))) front_is
-          ∙ (agree settings (map soft_values before) (soft_values slot) valid settings_built (length-map slot soft_value ∙ size) (soft_slot slot) letter_built).1
+          ∙ (agree settings (map soft_values before) (soft_values slot) valid settings_built (soft_slots before) (length-map slot soft_value ∙ size) (soft_slot slot) letter_built).1
 
     inputs : (slots before : List (List ℕ)) (claimed : List Claimed) → Behind before claimed → AreInputs (decoding settings) before slots
         → AreInputs (auditing (to_read_back settings form max)) claimed (owns before slots)

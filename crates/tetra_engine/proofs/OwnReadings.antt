@@ -10,7 +10,7 @@ use Rattle.tetra_bits.specs.Soft.{IsSoft, AllSoft, soft_value}
 use Rattle.tetra_records.specs.Readings.{reading_spelling}
 use Rattle.tetra_session.specs.Arrives.{SlotRead, SlotsArrive, WrittenSlotsArrive}
 use Rattle.tetra_session.specs.Built.{is_built_letter, IsBuilt}
-use Rattle.tetra_session.specs.Heard.{letter_heard, slot_letter, slot_front, slot_reading}
+use Rattle.tetra_session.specs.Heard.{letter_heard, slot_letter, block_heard, slot_front, slot_reading}
 use Rattle.tetra_session.specs.Readers.{read_front}
 use Rattle.tetra_session.specs.Sent.{slot_written, KeepsSlot}
 use Rattle.tetra_settings.specs.Blocks.{letter_of}
@@ -33,7 +33,7 @@ use Rattle.tetra_engine.specs.Slots.{soft_values, value_byte, slot_bytes}
 module _ (settings : Settings) (form : Form) (max : ℕ) where
   -- neither form nor number of slots has a part in what is read
   reading_same : (history : List (List ℤ)) (soft : List ℤ) → slot_reading (to_read_back settings form max) history soft ≡ slot_reading settings history soft
-  unfolding slot_reading slot_front letter_heard use_of mode_of
+  unfolding slot_reading slot_front block_heard letter_heard use_of mode_of
   reading_same history soft = refl
 
   letter_read : (history : List (List ℤ)) (soft : List ℤ) → (slot_reading settings history soft).letter ≡ slot_letter settings (length history) soft

@@ -1,6 +1,6 @@
 -- What blocks that fit a slot are.
-use Rattle.std.proofs.Common.{ℕ, ◌-◌, ◌<◌, ◌≡◌, Bool, true, List, length, refl, IsTrue, Option, Some, None, IfSome}
-use Rattle.tetra_settings.specs.Blocks.{Fits, FitsAccess, HasLengths}
+use Rattle.std.proofs.Common.{ℕ, ◌-◌, ◌<◌, ◌≡◌, ◌≢◌, Bool, true, List, length, arith, refl, sym, ◌∙◌, IsTrue, Option, Some, None, IfSome}
+use Rattle.tetra_settings.specs.Blocks.{Fits, FitsAccess, HasLengths, IsTrafficMode, load_bits}
 use Rattle.tetra_settings.specs.Slots.{use_of, use_in, mode_of, frame_of, timeslot_of, is_allowed}
 use Rattle.tetra_settings.specs.declared.types.Dir.{Dir}
 use Rattle.tetra_settings.specs.declared.types.Dir.TheVariants.{Dl, Ul}
@@ -53,26 +53,30 @@ control_c Ul Signalling h = absurd cc
 control_c Dl TrafficUse h = absurd cc
 control_c Ul TrafficUse h = absurd cc
 
--- a traffic slot of settings that are built is one of unprotected data
-raw_mode : (mode : Mode) (frame : ℕ) → is_built_mode mode ≡ true → use_in mode frame ≡ TrafficUse → mode ≡ D72
-raw_mode D72 frame h t = refl
-raw_mode Sig frame h t = absurd cc
-raw_mode Cb frame h t = absurd cc
-raw_mode (D48 span) frame h t = absurd cc
-raw_mode (D24 span) frame h t = absurd cc
-raw_mode Speech frame h t = absurd cc
+-- a traffic slot has a mode of traffic
+traffic_mode : (mode : Mode) (frame : ℕ) → use_in mode frame ≡ TrafficUse → IsTrafficMode mode
+traffic_mode D72 frame h = tt
+traffic_mode Sig frame h = absurd cc
+traffic_mode Cb frame h = absurd cc
+traffic_mode (D48 span) frame h = tt
+traffic_mode (D24 span) frame h = tt
+traffic_mode Speech frame h = tt
 
-pub traffic_is_raw : (settings : Settings) (t : ℕ) → is_built settings ≡ true → use_of settings t ≡ TrafficUse → mode_of settings t ≡ D72
-unfolding use_of mode_of
-traffic_is_raw settings t h e = raw_mode (mode_of settings t) (frame_of settings.at t) (mode_built settings (timeslot_of settings.at t - 1) h) e
+mode_of_traffic : (settings : Settings) (t : ℕ) → use_of settings t ≡ TrafficUse → IsTrafficMode (mode_of settings t)
+unfolding use_of
+mode_of_traffic settings t e = traffic_mode (mode_of settings t) (frame_of settings.at t) e
 
-raw_size : (mode : Mode) (load : List Bool) → mode ≡ D72 → HasLengths mode (Traffic load) → length load ≡ 432
-raw_size D72 load e h = h.0
-raw_size Sig load e h = absurd cc
-raw_size Cb load e h = absurd cc
-raw_size (D48 span) load e h = absurd cc
-raw_size (D24 span) load e h = absurd cc
-raw_size Speech load e h = absurd cc
+-- and one that is built
+mode_is_built : (settings : Settings) (t : ℕ) → is_built settings ≡ true → is_built_mode (mode_of settings t) ≡ true
+unfolding mode_of
+mode_is_built settings t h = mode_built settings (timeslot_of settings.at t - 1) h
+
+-- signalling and control are no traffic
+signalling_no_traffic : (slot : SlotUse) → slot ≡ Signalling → slot ≢ TrafficUse
+signalling_no_traffic slot e = λ f. absurd (let g : Signalling ≡ TrafficUse = sym e ∙ f in cc)
+
+control_no_traffic : (slot : SlotUse) → slot ≡ ControlUse → slot ≢ TrafficUse
+control_no_traffic slot e = λ f. absurd (let g : ControlUse ≡ TrafficUse = sym e ∙ f in cc)
 
 -- the access field
 pub access_small : (dir : Dir) (aach : Option ℕ) → FitsAccess dir aach → IfSome aach (λ message. message < 16384)
@@ -122,14 +126,14 @@ module _ (settings : Settings) (t : ℕ) (blocks : SlotBlocks) (fits : Fits sett
       let slot = signalling_s settings.dir (use_of settings t) letter in
       (slot.0, slot.1, lengths.0, lengths.1.0)
 
-  pub fits_raw : (load : List Bool) → is_built settings ≡ true → blocks.body ≡ Traffic load
-      → (use_of settings t ≡ TrafficUse) × (mode_of settings t ≡ D72) × (length load ≡ 432)
-  fits_raw load b e =
+  pub fits_traffic : (load : List Bool) → is_built settings ≡ true → blocks.body ≡ Traffic load
+      → (use_of settings t ≡ TrafficUse) × IsTrafficMode (mode_of settings t) × (is_built_mode (mode_of settings t) ≡ true)
+      × (length load ≡ load_bits (mode_of settings t) T)
+  fits_traffic load b e =
       let letter = rw e at fits.letter in
       let lengths = rw e at fits.lengths in
       let carries = traffic_t settings.dir (use_of settings t) letter in
-      let mode = traffic_is_raw settings t b carries in
-      (carries, mode, raw_size (mode_of settings t) load mode lengths)
+      (carries, mode_of_traffic settings t carries, mode_is_built settings t b, lengths.0)
 
   pub fits_control : (first second : Option (List Bool)) → blocks.body ≡ Control first second
       → (use_of settings t ≡ ControlUse) × (settings.dir ≡ Ul)
@@ -140,3 +144,16 @@ module _ (settings : Settings) (t : ℕ) (blocks : SlotBlocks) (fits : Fits sett
       let slot = control_c settings.dir (use_of settings t) letter in
       let subs = subs_sizes (mode_of settings t) first second lengths in
       (slot.0, slot.1, subs.0, subs.1)
+
+  -- a slot of another letter is no traffic
+  pub full_no_traffic : (block : List Bool) → blocks.body ≡ Full block → use_of settings t ≢ TrafficUse
+  full_no_traffic block e = signalling_no_traffic (use_of settings t) (fits_full block e).0
+
+  pub halves_no_traffic : (first second : List Bool) → blocks.body ≡ Halves first second → use_of settings t ≢ TrafficUse
+  halves_no_traffic first second e = signalling_no_traffic (use_of settings t) (fits_halves first second e).0
+
+  pub sync_no_traffic : (sync second : List Bool) → blocks.body ≡ Sync sync second → use_of settings t ≢ TrafficUse
+  sync_no_traffic sync second e = signalling_no_traffic (use_of settings t) (fits_sync sync second e).0
+
+  pub subslots_no_traffic : (first second : Option (List Bool)) → blocks.body ≡ Control first second → use_of settings t ≢ TrafficUse
+  subslots_no_traffic first second e = control_no_traffic (use_of settings t) (fits_control first second e).0

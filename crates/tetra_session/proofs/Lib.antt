@@ -1,5 +1,11 @@
 pub mod Fitting
+pub mod Lanes
+pub mod FittingData
 pub mod Sending
+pub mod GatherLanes
 pub mod Answering
-pub mod ApartLemmas
+pub mod SentApart
+pub mod HeardApart
 pub mod SlotsArriving
+pub mod PickedAt
+pub mod DataArriving

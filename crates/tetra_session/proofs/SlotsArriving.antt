@@ -12,7 +12,7 @@ use Rattle.tetra_bursts.specs.Fields.{first_half, second_half, sync_field, aach_
 use Rattle.tetra_bursts.specs.declared.table.Train.{Train}
 use Rattle.tetra_bursts.specs.declared.table.Train.TheVariants.{N, P as PTrain, Y}
 use Rattle.tetra_bursts.specs.lemmas.Joined.{undamaged_both}
-use Rattle.tetra_channels.specs.Channels.{Channel, bsch, hu, half, full, message_of, type4_bits, type5_bits, front_values, raw_bits, access_bits}
+use Rattle.tetra_channels.specs.Channels.{Channel, bsch, hu, half, full, data48, data24, message_of, type4_bits, type5_bits, word_bits, front_values, raw_bits, access_bits}
 use Rattle.tetra_channels.specs.Fields.{coded_reading}
 use Rattle.tetra_channels.specs.Laws.{UndamagedIsRead, UndamagedRawIsRead, UndamagedAccessIsRead, written_reading, written_plain}
 use Rattle.tetra_interleave.specs.Placed.{placed}
@@ -21,12 +21,12 @@ use Rattle.tetra_parity.specs.Parity.{width}
 use Rattle.tetra_rm.specs.lemmas.Words.{length-access_word}
 use Rattle.tetra_scramble.specs.Key.{key_of, zero_key_bits}
 use Rattle.tetra_scramble.specs.lemmas.Entries.{length-flipped}
-use Rattle.tetra_settings.specs.Slots.{byte_of, use_of, mode_of}
+use Rattle.tetra_settings.specs.Slots.{byte_of, timeslot_of, use_of, mode_of}
 use Rattle.tetra_settings.specs.Blocks.{Fits, letter_of}
 use Rattle.tetra_settings.specs.declared.types.Dir.{Dir}
 use Rattle.tetra_settings.specs.declared.types.Dir.TheVariants.{Dl, Ul}
 use Rattle.tetra_settings.specs.declared.types.Mode.{Mode}
-use Rattle.tetra_settings.specs.declared.types.Mode.TheVariants.{D72}
+use Rattle.tetra_settings.specs.declared.types.Mode.TheVariants.{Sig, Cb, D72, D48, D24, Speech}
 use Rattle.tetra_settings.specs.declared.types.Settings.{Settings}
 use Rattle.tetra_settings.specs.declared.slots.Letter.{Letter}
 use Rattle.tetra_settings.specs.declared.slots.Letter.TheVariants.{F, H, S, T, C}
@@ -42,12 +42,13 @@ use Rattle.tetra_settings.specs.declared.readings.SlotReading.{SlotReading}
 use Rattle.tetra_session.specs.Built.{is_built, is_built_letter}
 use Rattle.tetra_session.specs.Readers.{read_field, read_front}
 use Rattle.tetra_session.specs.Spots.{place, places_of, access_spot, is_downlink}
-use Rattle.tetra_session.specs.Heard.{allowed_in, letter_by, letter_heard, field_heard, place_values, fields_heard, slot_front, slot_reading}
-use Rattle.tetra_session.specs.Sent.{KeepsSlot, KeepsSlotOf, access_of, burst_of, subslot_bits}
+use Rattle.tetra_session.specs.Heard.{allowed_in, letter_by, letter_heard, field_heard, place_values, fields_heard, block_heard, slot_front, slot_reading}
+use Rattle.tetra_session.specs.Sent.{KeepsSlot, KeepsSlotOf, access_of, load_word, blocks_sent, burst_of, subslot_bits}
 use Rattle.tetra_session.specs.declared.spots.Spot.{Spot}
 use Rattle.tetra_session.specs.declared.spots.Spot.TheVariants.{Access, SyncAccess, Sync as SyncSpot, FirstBlock, SecondBlock, WholeSlot, FirstSubslot, SecondSubslot}
 use Rattle.tetra_session.specs.Arrives.{HasField, SubslotRead, SlotRead, SlotsArrive}
-use Rattle.tetra_session.proofs.Fitting.{fits_full, fits_halves, fits_sync, fits_raw, fits_control, access_there, access_none}
+use Rattle.tetra_session.proofs.Fitting.{fits_full, fits_halves, fits_sync, fits_control, access_there, access_none}
+use Rattle.tetra_session.proofs.FittingData.{CarriesLoad, raw_mode, fits_data}
 
 -- how many type-5 bits there are
 coded_size : (channel : Channel) (key block : List Bool) → length (type5_bits channel key block) ≡ channel.plan.sent
@@ -58,7 +59,20 @@ raw_size : (key block : List Bool) → length (raw_bits key block) ≡ length bl
 unfolding raw_bits
 raw_size key block = length-flipped block key 1
 
-access_size : (rows : List ℕ) (key : List Bool) (message : ℕ) → length (access_bits rows key message) ≡ 30
+pub word_size : (channel : Channel) (key word : List Bool) → length (word_bits channel key word) ≡ channel.plan.sent
+unfolding word_bits placed
+word_size channel key word = length-flipped _ key 1 ∙ length-numbered _ channel.plan.sent
+
+-- the word of a load of data
+load_size : (key : List Bool) (mode : Mode) (before : List (List Bool)) (load : List Bool) → CarriesLoad mode load → length (load_word key mode before load) ≡ 432
+load_size key D72 before load h = raw_size key load ∙ h
+load_size key (D48 span) before load h = word_size data48 key _
+load_size key (D24 span) before load h = word_size data24 key _
+load_size key Sig before load h = absurd h
+load_size key Cb before load h = absurd h
+load_size key Speech before load h = absurd h
+
+pub access_size : (rows : List ℕ) (key : List Bool) (message : ℕ) → length (access_bits rows key message) ≡ 30
 unfolding access_bits digits
 access_size rows key message = length-flipped _ key 1 ∙ length-access_word rows (digits 14 message) ∙ ap (λ n. n + 16) (length-numbered _ 14)
 
@@ -80,13 +94,13 @@ plain_field reading i name field bits there named e =
 
 -- the two blocks of a word
 module _ (word : List Bool) (size : length word ≡ 432) where
-  first_size : length (take 216 word) ≡ 216
+  pub first_size : length (take 216 word) ≡ 216
   first_size = length-take-le 216 word (omega arith)
 
-  second_size : length (drop 216 word) ≡ 216
+  pub second_size : length (drop 216 word) ≡ 216
   second_size = let d = length-drop 216 word in omega (arith, d)
 
-  joined : (v w : List ℤ) → IsUndamaged (take 216 word) v → IsUndamaged (drop 216 word) w → IsUndamaged word (v ++ w)
+  pub joined : (v w : List ℤ) → IsUndamaged (take 216 word) v → IsUndamaged (drop 216 word) w → IsUndamaged word (v ++ w)
   joined v w a b = subst (λ bits. IsUndamaged bits (v ++ w)) (take-append-drop 216 word) (undamaged_both (take 216 word) (drop 216 word) v w a b)
 
 record Laws : Type 0 where
@@ -110,12 +124,19 @@ module _ (laws : Laws) (settings : Settings) (history : List SlotBlocks) (blocks
   abbrev reading : SlotReading
   reading = slot_reading settings earlier received
 
+  -- the block of protected data that is complete, and the blocks sent before
+  abbrev complete : Option (List ℤ)
+  complete = block_heard settings earlier received
+
+  abbrev before : List (List Bool)
+  before = blocks_sent settings (timeslot_of settings.at (length history)) history
+
   -- the field at a place, read
   abbrev field_at : Dir → FieldName → Spot → Field
-  field_at dir name spot = read_field rows (field_heard dir key received (place name spot))
+  field_at dir name spot = read_field rows (field_heard dir key complete received (place name spot))
 
   abbrev fields_of : Dir → Letter → List Field
-  fields_of dir letter = map (read_field rows) (map (field_heard dir key received) (places_of dir letter (mode_of settings (length earlier))))
+  fields_of dir letter = map (read_field rows) (map (field_heard dir key complete received) (places_of dir letter (mode_of settings (length earlier))))
 
   items : (dir : Dir) (letter : Letter) → settings.dir ≡ dir → letter_heard settings (length earlier) received ≡ letter → reading.fields.items ≡ fields_of dir letter
   unfolding slot_reading read_front slot_front fields_heard
@@ -132,13 +153,13 @@ module _ (laws : Laws) (settings : Settings) (history : List SlotBlocks) (blocks
 
   -- what the received slot keeps, by what was sent
   kept_as : (dir : Dir) (aach : Option ℕ) (mode : Mode) (body : Body) → settings.dir ≡ dir → blocks.aach ≡ aach → mode_of settings (length history) ≡ mode → blocks.body ≡ body
-      → KeepsSlotOf dir (access_of rows key aach) (burst_of key mode body) received
+      → KeepsSlotOf dir (access_of rows key aach) (burst_of key mode before body) received
   unfolding KeepsSlot
   kept_as dir aach mode body d a m e =
-      subst (λ way. KeepsSlotOf way (access_of rows key aach) (burst_of key mode body) received) d
-      (subst (λ field. KeepsSlotOf settings.dir (access_of rows key field) (burst_of key mode body) received) a
-      (subst (λ here. KeepsSlotOf settings.dir (access_of rows key blocks.aach) (burst_of key here body) received) m
-      (subst (λ sent. KeepsSlotOf settings.dir (access_of rows key blocks.aach) (burst_of key (mode_of settings (length history)) sent) received) e kept)))
+      subst (λ way. KeepsSlotOf way (access_of rows key aach) (burst_of key mode before body) received) d
+      (subst (λ field. KeepsSlotOf settings.dir (access_of rows key field) (burst_of key mode before body) received) a
+      (subst (λ here. KeepsSlotOf settings.dir (access_of rows key blocks.aach) (burst_of key here before body) received) m
+      (subst (λ sent. KeepsSlotOf settings.dir (access_of rows key blocks.aach) (burst_of key (mode_of settings (length history)) before sent) received) e kept)))
 
   -- the access field of a letter that has a normal burst
   access_read : (letter : Letter) (message : ℕ) → access_spot letter ≡ Access → settings.dir ≡ Dl → letter_heard settings (length earlier) received ≡ letter → message < 16384
@@ -249,48 +270,54 @@ module _ (laws : Laws) (settings : Settings) (history : List SlotBlocks) (blocks
         );
       }
 
-  -- unprotected data
-  raw_down : (load : List Bool) → blocks.body ≡ Traffic load → settings.dir ≡ Dl → SlotRead blocks reading
+  -- data
+  traffic_down : (load : List Bool) → blocks.body ≡ Traffic load → settings.dir ≡ Dl → SlotRead blocks reading
   unfolding read_field field_heard place_values
-  raw_down load e d =
-      let fit = fits_raw settings (length history) blocks fits load built e in
+  traffic_down load e d =
+      let fit = fits_data settings (length history) blocks built fits load e in
       let there = access_there settings.dir blocks.aach fits.access d in
-      let word : List Bool = raw_bits key load in
-      let size : length word ≡ 432 = raw_size key load ∙ fit.2 in
+      let word : List Bool = load_word key (mode_of settings (length history)) before load in
+      let size : length word ≡ 432 = load_size key (mode_of settings (length history)) before load fit.1 in
       let access : List Bool = access_bits rows key there.0 in
-      let sent = kept_as Dl (Some there.0) D72 (Traffic load) d there.1 fit.1 e in
+      let sent = kept_as Dl (Some there.0) (mode_of settings (length history)) (Traffic load) d there.1 refl e in
       let parts = laws.fields.normal_down N (take 216 word) access (drop 216 word) received (first_size word size) (access_size rows key there.0) (second_size word size) sent in
       let kinds = laws.kinds.kind (blocks_down (take 216 word) access (drop 216 word)) true N (allowed_in Dl TrafficUse) received sent refl (λ y. refl) in
       let letter = heard_as Dl TrafficUse N d fit.0 kinds in
-      let mode : mode_of settings (length earlier) ≡ D72 = ap (mode_of settings) same ∙ fit.1 in
       record {
         letter = lettered T letter ∙ sym (ap (λ b. byte_of (letter_of b)) e);
         fields = rw (e, there.1) (
           access_read T there.0 refl d letter there.2 parts.access,
-          plain_field reading 1 D72Name (field_at Dl D72Name WholeSlot) load
-              (λ other. ap (λ xs. get_or xs 1 other) (items Dl T d letter) ∙ ap (λ m. get_or (map (read_field rows) (map (field_heard Dl key received) (places_of Dl T m))) 1 other) mode) refl
-              (laws.raw_read key load (first_half true received ++ second_half true received) (joined word size _ _ parts.block_1 parts.block_2)),
+          λ l.
+              let raw : mode_of settings (length history) ≡ D72 = raw_mode (mode_of settings (length history)) load fit.1 l in
+              let mode : mode_of settings (length earlier) ≡ D72 = ap (mode_of settings) same ∙ raw in
+              plain_field reading 1 D72Name (field_at Dl D72Name WholeSlot) load
+              (λ other. ap (λ xs. get_or xs 1 other) (items Dl T d letter) ∙ ap (λ m. get_or (map (read_field rows) (map (field_heard Dl key complete received) (places_of Dl T m))) 1 other) mode) refl
+              (laws.raw_read key load (first_half true received ++ second_half true received)
+              (subst (λ m. IsUndamaged (load_word key m before load) (first_half true received ++ second_half true received)) raw (joined word size _ _ parts.block_1 parts.block_2))),
         );
       }
 
-  raw_up : (load : List Bool) → blocks.body ≡ Traffic load → settings.dir ≡ Ul → SlotRead blocks reading
+  traffic_up : (load : List Bool) → blocks.body ≡ Traffic load → settings.dir ≡ Ul → SlotRead blocks reading
   unfolding read_field field_heard place_values
-  raw_up load e d =
-      let fit = fits_raw settings (length history) blocks fits load built e in
+  traffic_up load e d =
+      let fit = fits_data settings (length history) blocks built fits load e in
       let none = access_none settings.dir blocks.aach fits.access d in
-      let word : List Bool = raw_bits key load in
-      let size : length word ≡ 432 = raw_size key load ∙ fit.2 in
-      let sent = kept_as Ul None D72 (Traffic load) d none fit.1 e in
+      let word : List Bool = load_word key (mode_of settings (length history)) before load in
+      let size : length word ≡ 432 = load_size key (mode_of settings (length history)) before load fit.1 in
+      let sent = kept_as Ul None (mode_of settings (length history)) (Traffic load) d none refl e in
       let parts = laws.fields.normal_up N (take 216 word) (drop 216 word) received (first_size word size) (second_size word size) sent in
       let kinds = laws.kinds.kind (blocks_up (take 216 word) (drop 216 word)) false N (allowed_in Ul TrafficUse) received sent refl (λ y. absurd cc) in
       let letter = heard_as Ul TrafficUse N d fit.0 kinds in
-      let mode : mode_of settings (length earlier) ≡ D72 = ap (mode_of settings) same ∙ fit.1 in
       record {
         letter = lettered T letter ∙ sym (ap (λ b. byte_of (letter_of b)) e);
         fields = rw (e, none)
-            (plain_field reading 0 D72Name (field_at Ul D72Name WholeSlot) load
-            (λ other. ap (λ xs. get_or xs 0 other) (items Ul T d letter) ∙ ap (λ m. get_or (map (read_field rows) (map (field_heard Ul key received) (places_of Ul T m))) 0 other) mode) refl
-            (laws.raw_read key load (first_half false received ++ second_half false received) (joined word size _ _ parts.block_1 parts.block_2)));
+            (λ l.
+            let raw : mode_of settings (length history) ≡ D72 = raw_mode (mode_of settings (length history)) load fit.1 l in
+            let mode : mode_of settings (length earlier) ≡ D72 = ap (mode_of settings) same ∙ raw in
+            plain_field reading 0 D72Name (field_at Ul D72Name WholeSlot) load
+            (λ other. ap (λ xs. get_or xs 0 other) (items Ul T d letter) ∙ ap (λ m. get_or (map (read_field rows) (map (field_heard Ul key complete received) (places_of Ul T m))) 0 other) mode) refl
+            (laws.raw_read key load (first_half false received ++ second_half false received)
+            (subst (λ m. IsUndamaged (load_word key m before load) (first_half false received ++ second_half false received)) raw (joined word size _ _ parts.block_1 parts.block_2))));
       }
 
   -- control bursts
@@ -328,8 +355,8 @@ module _ (laws : Laws) (settings : Settings) (history : List SlotBlocks) (blocks
   by_body (Full block) e Ul d letter = full_up block e d
   by_body (Halves first second) e dir d letter = halves first second e
   by_body (Sync sync second) e dir d letter = synchronised sync second e
-  by_body (Traffic load) e Dl d letter = raw_down load e d
-  by_body (Traffic load) e Ul d letter = raw_up load e d
+  by_body (Traffic load) e Dl d letter = traffic_down load e d
+  by_body (Traffic load) e Ul d letter = traffic_up load e d
   by_body (Control first second) e dir d letter = controlled first second e
   by_body (Stolen first load) e dir d letter = absurd (let b = rw e at letter in cc)
   by_body (Both first second load) e dir d letter = absurd (let b = rw e at letter in cc)

@@ -34,14 +34,15 @@ abbrev pub SubslotRead : Option (List Bool) → SlotReading → ℕ → Type 0
 SubslotRead None reading i = Unit {0}
 SubslotRead (Some block) reading i = HasField reading i Hu Good (message_of hu block)
 
--- the blocks of a body are read, in the fields from i on: with their parity and Good, and unprotected data Unchecked
+-- the blocks of a body are read, in the fields from i on: with their parity and Good, and unprotected data, loads of 432
+-- bits, Unchecked. Protected data comes over several slots: see there
 abbrev pub BlocksRead : Body → SlotReading → ℕ → Type 0
 BlocksRead (Full block) reading i = HasField reading i FullName Good (message_of full block)
 BlocksRead (Halves first second) reading i =
     HasField reading i Half Good (message_of half first) × HasField reading (i + 1) Half Good (message_of half second)
 BlocksRead (Sync sync second) reading i =
     HasField reading i SyncName Good (message_of bsch sync) × HasField reading (i + 1) Half Good (message_of half second)
-BlocksRead (Traffic load) reading i = HasField reading i D72 Unchecked load
+BlocksRead (Traffic load) reading i = length load ≡ 432 → HasField reading i D72 Unchecked load
 BlocksRead (Stolen first load) reading i = ⊥
 BlocksRead (Both first second load) reading i = ⊥
 BlocksRead (Control first second) reading i = SubslotRead first reading i × SubslotRead second reading (i + 1)

@@ -1,4 +1,4 @@
--- What is built: timeslots of signalling, of control bursts and of unprotected data, and the letters F, H, S, T and C.
+-- What is built: timeslots of signalling, of control bursts and of data, and the letters F, H, S, T and C.
 use Rattle.std.specs.Prelude.{ℕ, Bool, true, false, ◌||◌, ◌==◌, IsTrue}
 use Rattle.std.specs.List.{list_all}
 use Rattle.tetra_settings.specs.declared.types.Mode.{Mode}
@@ -11,8 +11,8 @@ abbrev pub is_built_mode : Mode → Bool
 is_built_mode Sig = true
 is_built_mode Cb = true
 is_built_mode D72 = true
-is_built_mode (D48 span) = false
-is_built_mode (D24 span) = false
+is_built_mode (D48 span) = true
+is_built_mode (D24 span) = true
 is_built_mode Speech = false
 
 -- settings: modes that are built
@@ -37,7 +37,7 @@ IsBuiltName Half = Unit {0}
 IsBuiltName Hu = Unit {0}
 IsBuiltName Full = Unit {0}
 IsBuiltName D72Field = Unit {0}
-IsBuiltName D48Field = ⊥
-IsBuiltName D24Field = ⊥
+IsBuiltName D48Field = Unit {0}
+IsBuiltName D24Field = Unit {0}
 IsBuiltName Whole = ⊥
 IsBuiltName Single = ⊥

@@ -1,11 +1,14 @@
 -- What a receiver answers, and what it stands for.
-use Rattle.std.specs.Prelude.{◌≡◌, ℕ, ◌≤◌, Bool, true, false, List, length, map, ℤ, Some}
+use Rattle.std.specs.Prelude.{◌≡◌, ℕ, Bool, true, false, cond, List, [], ◌∷◌, ◌++◌, length, map, ℤ, Some}
+use Rattle.std.specs.declared.option.Option.{Option}
 use Rattle.tetra_bursts.specs.Kind.{kind}
 use Rattle.tetra_bursts.specs.declared.kinds.Allowed.{Allowed}
 use Rattle.tetra_bursts.specs.declared.table.Train.{Train}
 use Rattle.tetra_bursts.specs.declared.table.Train.TheVariants.{N, P as PTrain, Y}
+use Rattle.tetra_diag.specs.Diagonal.{gathered, GatherStands}
 use Rattle.tetra_scramble.specs.Key.{key_of, zero_key_bits}
-use Rattle.tetra_settings.specs.Slots.{use_of, mode_of, byte_of}
+use Rattle.tetra_settings.specs.Slots.{timeslot_of, use_of, mode_of, byte_of}
+use Rattle.tetra_settings.specs.Readings.{traffic_name}
 use Rattle.tetra_settings.specs.declared.types.Dir.{Dir}
 use Rattle.tetra_settings.specs.declared.types.Dir.TheVariants.{Dl, Ul}
 use Rattle.tetra_settings.specs.declared.types.Mode.{Mode}
@@ -19,12 +22,16 @@ use Rattle.tetra_settings.specs.declared.readings.FieldName.TheVariants.{Aach, S
 use Rattle.tetra_settings.specs.declared.readings.Field.{Field}
 use Rattle.tetra_settings.specs.declared.readings.SlotReading.{SlotReading}
 use Rattle.tetra_session.specs.Readers.{reader, heard_by, read_field, read_front}
-use Rattle.tetra_session.specs.Spots.{is_downlink, places_of, spot_values}
-use Rattle.tetra_session.specs.Time.{timeslot_mode, depth}
+use Rattle.tetra_session.specs.Spots.{is_downlink, place, places_of, spot_values}
+use Rattle.tetra_session.specs.Four.{all_brought, FourStand}
+use Rattle.tetra_session.specs.Time.{depth}
 use Rattle.tetra_session.specs.declared.front.FrontField.{FrontField}
 use Rattle.tetra_session.specs.declared.front.Front.{Front}
+use Rattle.tetra_session.specs.declared.gathering.GatherLane.{GatherLane}
+use Rattle.tetra_session.specs.declared.gathering.GatherLane.TheVariants.{Still, One, Four, Eight}
 use Rattle.tetra_session.specs.declared.receiver.Receiver.{Receiver}
 use Rattle.tetra_session.specs.declared.spots.Place.{Place}
+use Rattle.tetra_session.specs.declared.spots.Spot.TheVariants.{WholeSlot}
 
 -- the training sequences that a slot may have; in control bursts none is asked for
 abbrev pub allowed_in : Dir → SlotUse → Allowed
@@ -73,32 +80,75 @@ unfoldable pub place_values : Dir → List Bool → List ℤ → Place → List 
 place_values dir key soft place =
     heard_by (reader place.name) (key_for key place.name) (spot_values dir place.spot soft)
 
+-- what a traffic slot brings to its timeslot: of protected data its slot word
+unfoldable pub word_heard : Dir → List Bool → Mode → List ℤ → List ℤ
+word_heard dir key mode soft = place_values dir key soft (place (traffic_name mode Whole) WholeSlot)
+
+-- the slot words of timeslot c
+abbrev pub words_heard : Settings → ℕ → List (List ℤ) → List (List ℤ)
+words_heard settings c history = all_brought (word_heard settings.dir (key_of settings.colour)) settings c history
+
+-- the block of protected data that is complete with the slot that follows these
+unfoldable pub block_heard : Settings → List (List ℤ) → List ℤ → Option (List ℤ)
+block_heard settings history soft =
+    let t = length history in
+    let mode = mode_of settings t in
+    let word = word_heard settings.dir (key_of settings.colour) mode soft in
+    gathered (depth mode) (words_heard settings (timeslot_of settings.at t) history ++ word ∷ [])
+
+-- the values of protected data come over several slots
+abbrev pub is_spread : FieldName → Bool
+is_spread D48 = true
+is_spread D24 = true
+is_spread Aach = false
+is_spread Sync = false
+is_spread Half = false
+is_spread Hu = false
+is_spread Full = false
+is_spread D72 = false
+is_spread Whole = false
+is_spread Single = false
+
+-- the values of a field: of protected data those of the block that is complete, else those at its place
+abbrev pub values_of : FieldName → Option (List ℤ) → List ℤ → Option (List ℤ)
+values_of name block values = cond (is_spread name) block (Some values)
+
 -- the field at a place, with its values
-unfoldable pub field_heard : Dir → List Bool → List ℤ → Place → FrontField
-field_heard dir key soft place = record { name = place.name; soft = Some (place_values dir key soft place) }
+unfoldable pub field_heard : Dir → List Bool → Option (List ℤ) → List ℤ → Place → FrontField
+field_heard dir key block soft place =
+    record { name = place.name; soft = values_of place.name block (place_values dir key soft place) }
 
 -- the field at a place, read
-unfoldable pub field_of_place : Settings → List Bool → List ℤ → Place → Field
-field_of_place settings key soft place = read_field settings.rows.0 (field_heard settings.dir key soft place)
+unfoldable pub field_of_place : Settings → List Bool → Option (List ℤ) → List ℤ → Place → Field
+field_of_place settings key block soft place =
+    read_field settings.rows.0 (field_heard settings.dir key block soft place)
 
 -- the fields of a slot of this letter, with their values
-unfoldable pub fields_heard : Dir → Mode → Letter → List Bool → List ℤ → List FrontField
-fields_heard dir mode letter key soft = map (field_heard dir key soft) (places_of dir letter mode)
+unfoldable pub fields_heard : Dir → Mode → Letter → List Bool → Option (List ℤ) → List ℤ → List FrontField
+fields_heard dir mode letter key block soft = map (field_heard dir key block soft) (places_of dir letter mode)
 
 -- the front of the slot that follows these
 unfoldable pub slot_front : Settings → List (List ℤ) → List ℤ → Front
 slot_front settings history soft =
     let t = length history in
     let letter = letter_heard settings t soft in
-    let fields = fields_heard settings.dir (mode_of settings t) letter (key_of settings.colour) soft in
+    let block = block_heard settings history soft in
+    let fields = fields_heard settings.dir (mode_of settings t) letter (key_of settings.colour) block soft in
     record { letter = byte_of letter; fields = record { items = fields } }
 
 -- the reading of the slot that follows these: what is read of its front
 unfoldable pub slot_reading : Settings → List (List ℤ) → List ℤ → SlotReading
 slot_reading settings history soft = read_front settings.rows.0 (slot_front settings history soft)
 
--- of no timeslot anything is kept: its blocks are spread over no other slots
+-- a timeslot whose blocks are spread over n slots keeps the last n slot words; nothing where they are not spread
+abbrev pub GatherLaneStands : ℕ → List (List ℤ) → GatherLane → Type 0
+GatherLaneStands n words Still = n ≡ 0
+GatherLaneStands n words (One gather) = (n ≡ 1) × GatherStands 1 words gather
+GatherLaneStands n words (Four gather) = (n ≡ 4) × GatherStands 4 words gather
+GatherLaneStands n words (Eight gather) = (n ≡ 8) × GatherStands 8 words gather
+
 pub record ReceiverStands (settings : Settings) (history : List (List ℤ)) (receiver : Receiver) : Type 0 where
   pub same : receiver.settings ≡ settings
   pub turn : receiver.turn ≡ length history
-  pub timeslots : (c : ℕ) → 1 ≤ c → c ≤ 4 → depth (timeslot_mode settings c) ≡ 0
+  pub timeslots : FourStand GatherLaneStands (word_heard settings.dir (key_of settings.colour)) Still settings history
+      receiver.lanes

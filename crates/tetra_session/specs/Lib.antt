@@ -1,10 +1,12 @@
 pub mod Built
 pub mod Time
+pub mod Four
 pub mod Spots
 pub mod Readers
 pub mod Sent
 pub mod Heard
 pub mod Apart
 pub mod Arrives
+pub mod Data
 pub mod Fronts
 pub mod lemmas

@@ -1,13 +1,14 @@
 -- What a sender sends, and what it stands for.
-use Rattle.std.specs.Prelude.{◌≡◌, ℕ, ◌≤◌, Bool, List, [], length, take, drop, ℤ, None, Some}
+use Rattle.std.specs.Prelude.{◌≡◌, ℕ, Bool, List, [], ◌∷◌, ◌++◌, length, take, drop, ℤ, None, Some}
 use Rattle.std.specs.declared.option.Option.{Option}
 use Rattle.tetra_bursts.specs.Arrives.{KeepsNormalDown, KeepsSyncDown, KeepsNormalUp, KeepsControlUp}
 use Rattle.tetra_bursts.specs.Bursts.{normal_down_slot, sync_down_slot, normal_up_slot, control_up_slot}
 use Rattle.tetra_bursts.specs.declared.table.Train.{Train}
 use Rattle.tetra_bursts.specs.declared.table.Train.TheVariants.{N, P as PTrain}
-use Rattle.tetra_channels.specs.Channels.{bsch, hu, half, full, type5_bits, raw_bits, access_bits}
+use Rattle.tetra_channels.specs.Channels.{bsch, hu, half, full, data48, data24, type3_bits, type5_bits, word_bits, raw_bits, access_bits}
+use Rattle.tetra_diag.specs.Diagonal.{spread_word, SpreadStands}
 use Rattle.tetra_scramble.specs.Key.{key_of, zero_key_bits}
-use Rattle.tetra_settings.specs.Slots.{mode_of}
+use Rattle.tetra_settings.specs.Slots.{timeslot_of, mode_of}
 use Rattle.tetra_settings.specs.declared.types.Dir.{Dir}
 use Rattle.tetra_settings.specs.declared.types.Dir.TheVariants.{Dl, Ul}
 use Rattle.tetra_settings.specs.declared.types.Mode.{Mode}
@@ -16,8 +17,11 @@ use Rattle.tetra_settings.specs.declared.types.Settings.{Settings}
 use Rattle.tetra_settings.specs.declared.blocks.Body.{Body}
 use Rattle.tetra_settings.specs.declared.blocks.Body.TheVariants.{Full, Halves, Sync, Traffic, Stolen, Both, Control}
 use Rattle.tetra_settings.specs.declared.blocks.SlotBlocks.{SlotBlocks}
-use Rattle.tetra_session.specs.Time.{timeslot_mode, depth}
+use Rattle.tetra_session.specs.Four.{all_brought, FourStand}
+use Rattle.tetra_session.specs.Time.{span_slots}
 use Rattle.tetra_session.specs.declared.sender.Sender.{Sender}
+use Rattle.tetra_session.specs.declared.spreading.SpreadLane.{SpreadLane}
+use Rattle.tetra_session.specs.declared.spreading.SpreadLane.TheVariants.{Still, One, Four, Eight}
 
 -- the burst of a slot with the type-5 bits that it carries, but for the access field: a training sequence, block 1 and
 -- block 2; the BSCH and block 2; or two subslots, where each is sent
@@ -30,31 +34,53 @@ pub data SlotBurst : Type 0 where
 abbrev pub whole : Train → List Bool → SlotBurst
 whole train word = Normal train (take 216 word) (drop 216 word)
 
--- the 432 type-5 bits of the load of a traffic slot, by the mode of its timeslot; protected data and speech are not
--- built
-abbrev pub load_word : List Bool → Mode → List Bool → List Bool
-load_word key D72 load = raw_bits key load
-load_word key Sig load = []
-load_word key Cb load = []
-load_word key (D48 span) load = []
-load_word key (D24 span) load = []
-load_word key Speech load = []
+-- the load of a traffic slot
+abbrev pub load_of : Body → List Bool
+load_of (Full block) = []
+load_of (Halves first second) = []
+load_of (Sync sync second) = []
+load_of (Traffic load) = load
+load_of (Stolen first load) = load
+load_of (Both first second load) = load
+load_of (Control first second) = []
+
+-- the type-3 bits of a load of protected data, which are spread over slots
+abbrev pub data_block : Mode → List Bool → List Bool
+data_block (D48 span) load = type3_bits data48 load
+data_block (D24 span) load = type3_bits data24 load
+data_block Sig load = []
+data_block Cb load = []
+data_block D72 load = []
+data_block Speech load = []
+
+-- the 432 type-5 bits of the load of a traffic slot, by the mode of its timeslot and the blocks of protected data before
+-- it; speech is not built
+abbrev pub load_word : List Bool → Mode → List (List Bool) → List Bool → List Bool
+load_word key D72 before load = raw_bits key load
+load_word key (D48 span) before load =
+    word_bits data48 key (spread_word (span_slots span) (before ++ data_block (D48 span) load ∷ []))
+load_word key (D24 span) before load =
+    word_bits data24 key (spread_word (span_slots span) (before ++ data_block (D24 span) load ∷ []))
+load_word key Sig before load = []
+load_word key Cb before load = []
+load_word key Speech before load = []
 
 -- the type-5 bits of a subslot that is sent
 abbrev pub subslot_bits : List Bool → Option (List Bool) → Option (List Bool)
 subslot_bits key None = None
 subslot_bits key (Some block) = Some (type5_bits hu key block)
 
--- the burst of a body. BSCH has the key of no colour; stolen half slots are not built
-abbrev pub burst_of : List Bool → Mode → Body → SlotBurst
-burst_of key mode (Full block) = whole N (type5_bits full key block)
-burst_of key mode (Halves first second) = Normal PTrain (type5_bits half key first) (type5_bits half key second)
-burst_of key mode (Sync sync second) =
+-- the burst of a body, after the blocks of protected data before it. BSCH has the key of no colour; stolen half slots
+-- are not built
+abbrev pub burst_of : List Bool → Mode → List (List Bool) → Body → SlotBurst
+burst_of key mode before (Full block) = whole N (type5_bits full key block)
+burst_of key mode before (Halves first second) = Normal PTrain (type5_bits half key first) (type5_bits half key second)
+burst_of key mode before (Sync sync second) =
     Synchronisation (type5_bits bsch zero_key_bits sync) (type5_bits half key second)
-burst_of key mode (Traffic load) = whole N (load_word key mode load)
-burst_of key mode (Stolen first load) = Normal PTrain [] []
-burst_of key mode (Both first second load) = Normal PTrain [] []
-burst_of key mode (Control first second) = Subslots (subslot_bits key first) (subslot_bits key second)
+burst_of key mode before (Traffic load) = whole N (load_word key mode before load)
+burst_of key mode before (Stolen first load) = Normal PTrain [] []
+burst_of key mode before (Both first second load) = Normal PTrain [] []
+burst_of key mode before (Control first second) = Subslots (subslot_bits key first) (subslot_bits key second)
 
 -- the access field of a downlink slot
 abbrev pub access_of : List ℕ → List Bool → Option ℕ → List Bool
@@ -75,10 +101,20 @@ KeepsSlotOf Ul access (Normal train first second) received = KeepsNormalUp train
 KeepsSlotOf dir access (Synchronisation sync second) received = KeepsSyncDown sync access second received
 KeepsSlotOf dir access (Subslots first second) received = KeepsControlUp first second received
 
+-- the block of protected data that a slot brings to its timeslot
+abbrev pub block_sent : Mode → SlotBlocks → List Bool
+block_sent mode blocks = data_block mode (load_of blocks.body)
+
+-- the blocks of protected data of timeslot c
+abbrev pub blocks_sent : Settings → ℕ → List SlotBlocks → List (List Bool)
+blocks_sent settings c history = all_brought block_sent settings c history
+
 -- the burst of the slot that follows these
 abbrev pub burst_after : Settings → List SlotBlocks → SlotBlocks → SlotBurst
 burst_after settings history blocks =
-    burst_of (key_of settings.colour) (mode_of settings (length history)) blocks.body
+    let t = length history in
+    burst_of (key_of settings.colour) (mode_of settings t) (blocks_sent settings (timeslot_of settings.at t) history)
+    blocks.body
 
 abbrev pub access_in : Settings → SlotBlocks → List Bool
 access_in settings blocks = access_of settings.rows.0 (key_of settings.colour) blocks.aach
@@ -94,8 +130,14 @@ unfoldable pub KeepsSlot : Settings → List SlotBlocks → SlotBlocks → List 
 KeepsSlot settings history blocks received =
     KeepsSlotOf settings.dir (access_in settings blocks) (burst_after settings history blocks) received
 
--- of no timeslot anything is kept: its blocks are spread over no other slots
+-- a timeslot whose blocks are spread over n slots keeps the last n; nothing where they are not spread
+abbrev pub SpreadLaneStands : ℕ → List (List Bool) → SpreadLane → Type 0
+SpreadLaneStands n blocks Still = n ≡ 0
+SpreadLaneStands n blocks (One spread) = (n ≡ 1) × SpreadStands 1 blocks spread
+SpreadLaneStands n blocks (Four spread) = (n ≡ 4) × SpreadStands 4 blocks spread
+SpreadLaneStands n blocks (Eight spread) = (n ≡ 8) × SpreadStands 8 blocks spread
+
 pub record SenderStands (settings : Settings) (history : List SlotBlocks) (sender : Sender) : Type 0 where
   pub same : sender.settings ≡ settings
   pub turn : sender.turn ≡ length history
-  pub timeslots : (c : ℕ) → 1 ≤ c → c ≤ 4 → depth (timeslot_mode settings c) ≡ 0
+  pub timeslots : FourStand SpreadLaneStands block_sent Still settings history sender.lanes

@@ -2,8 +2,12 @@
 -- cites them, but for a struct that keeps valid settings.
 pub mod Valid
 pub mod Modes
+pub mod Picked
+pub mod FourSteps
+pub mod Same
 pub mod Places
 pub mod Values
+pub mod Spread
 pub mod Plans
 pub mod Fields
 pub mod Written

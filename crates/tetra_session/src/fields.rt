@@ -1,24 +1,27 @@
 // The letter and the fields of a slot.
-ghost use Rattle.std.specs.Prelude.{◌≡◌, ◌≤◌, length, map, All};
+ghost use Rattle.std.specs.Prelude.{◌≡◌, ◌≤◌, ◌++◌, ◌∷◌, [], List, ℤ, length, map, All, IfSome, IsTrue};
 ghost use Rattle.arrayvec.specs.ArrayVec.{array_vec_len};
 ghost use Rattle.tetra_bits.specs.Soft.{AllSoft};
+ghost use Rattle.tetra_diag.specs.Diagonal.{gathered};
 ghost use Rattle.tetra_scramble.specs.Key.{zero_key_bits};
 ghost use Rattle.tetra_settings.specs.Readings.{sizes};
 ghost use Rattle.tetra_session.specs.Built.{IsBuiltName};
-ghost use Rattle.tetra_session.specs.Heard.{allowed_in, letter_by, place_values, field_heard, field_of_place};
-ghost use Rattle.tetra_session.specs.Readers.{reader, read_by};
+ghost use Rattle.tetra_session.specs.Heard.{GatherLaneStands, allowed_in, letter_by, place_values, word_heard, is_spread, field_heard, field_of_place};
+ghost use Rattle.tetra_session.specs.Readers.{reader, read_by, field_reading};
 ghost use Rattle.tetra_session.specs.Spots.{FitsSpot};
+ghost use Rattle.tetra_session.specs.Time.{depth};
 
 use crate::front::FrontField;
+use crate::gathering::GatherLane;
 use crate::keys::Keys;
-use crate::spots::{Place, spot_into};
+use crate::spots::{Place, Spot, spot_into};
 use arrayvec::ArrayVec;
-use tetra_bits::{Reading, Soft};
+use tetra_bits::{Bits, Mark, Reading, Soft};
 use tetra_bursts::{Allowed, Train};
-use tetra_channels::{Aach, Bsch, Full, Half, Hu, Raw72};
+use tetra_channels::{Aach, Bsch, Data24, Data48, Full, Half, Hu, Raw72};
 use tetra_rm::Rows;
 use tetra_scramble::flip_soft_into;
-use tetra_settings::{Dir, Field, FieldName, Letter, Settings, SlotUse};
+use tetra_settings::{Dir, Field, FieldName, Letter, Mode, Settings, SlotUse};
 
 /// Lists that are filled on the way of a slot, kept so that they serve again.
 #[derive(Drop)]
@@ -91,7 +94,54 @@ pub fn hear(
         FieldName::Hu => Hu::front_into(type5, &keys.colour, values),
         FieldName::Full => Full::front_into(type5, &keys.colour, values),
         FieldName::D72 => flip_soft_into(type5, &keys.colour, 1, values),
-        FieldName::D48 | FieldName::D24 | FieldName::Whole | FieldName::Single => unreachable!(),
+        FieldName::D48 => Data48::front_into(type5, &keys.colour, values),
+        FieldName::D24 => Data24::front_into(type5, &keys.colour, values),
+        FieldName::Whole | FieldName::Single => unreachable!(),
+    }
+}
+
+/// Takes the slot word of a traffic slot into the lane of its timeslot, where it is one of protected data. `block` is then
+/// the block that is complete with it, where one is. `scratch` is filled on the way.
+pub fn gather(
+    lane: &mut GatherLane,
+    dir: Dir,
+    mode: Mode,
+    keys: &Keys,
+    soft: &[i16; 510],
+    scratch: &mut Scratch,
+    block: &mut Option<Soft>,
+)
+    requires soft { AllSoft soft.now }
+    requires none { keys.now.none ≡ zero_key_bits }
+    ensures block { (words : List (List ℤ)) → GatherLaneStands (depth mode) words lane.old → 1 ≤ depth mode
+        → block.new ≡ gathered (depth mode) (words ++ word_heard dir keys.now.colour mode soft.now ∷ []) }
+    ensures stands { (words : List (List ℤ)) → GatherLaneStands (depth mode) words lane.old
+        → GatherLaneStands (depth mode) (words ++ word_heard dir keys.now.colour mode soft.now ∷ []) lane.new }
+    ensures size { IfSome block.new (λ values. length values ≡ 432) }
+{
+    let name = match mode {
+        Mode::D48(_) => FieldName::D48,
+        Mode::D24(_) => FieldName::D24,
+        Mode::Sig | Mode::Cb | Mode::D72 | Mode::Speech => {
+            *block = None;
+            return;
+        }
+    };
+    let place = Place {
+        name,
+        spot: Spot::WholeSlot,
+    };
+    hear(
+        dir,
+        place,
+        keys,
+        soft,
+        &mut scratch.type5,
+        &mut scratch.values,
+    );
+    let values = block.get_or_insert_with(Soft::new);
+    if !lane.push_into(&scratch.values, values) {
+        *block = None;
     }
 }
 
@@ -108,7 +158,43 @@ pub fn read(name: FieldName, rows: &Rows, soft: &Soft, reading: &mut Reading)
         FieldName::Hu => Hu::decode3_into(soft, reading),
         FieldName::Full => Full::decode3_into(soft, reading),
         FieldName::D72 => Raw72::decode1_into(soft, reading),
-        FieldName::D48 | FieldName::D24 | FieldName::Whole | FieldName::Single => unreachable!(),
+        FieldName::D48 => Data48::decode3_into(soft, reading),
+        FieldName::D24 => Data24::decode3_into(soft, reading),
+        FieldName::Whole | FieldName::Single => unreachable!(),
+    }
+}
+
+/// The reading of a block of protected data that is complete, or that is not yet, written over a reading that is there.
+fn read_block(name: FieldName, rows: &Rows, block: &Option<Soft>, reading: &mut Reading)
+    requires size { IfSome block.now (λ values. length values ≡ (sizes name).values) }
+    requires built { IsBuiltName name }
+    ensures { reading.new ≡ field_reading rows.now.0 name block.now }
+{
+    match block {
+        Some(values) => read(name, rows, values, reading),
+        None => {
+            reading.mark = Mark::NotYet;
+            reading.metric = 0;
+            reading.bits = Bits::zeros(name.sizes().bits);
+            reading.potentials = None;
+        }
+    }
+}
+
+/// Whether the values of a field come over several slots: those of protected data.
+fn is_spread(name: FieldName) -> bool
+    ensures { result ≡ is_spread name }
+{
+    match name {
+        FieldName::D48 | FieldName::D24 => true,
+        FieldName::Aach
+        | FieldName::Sync
+        | FieldName::Half
+        | FieldName::Hu
+        | FieldName::Full
+        | FieldName::D72
+        | FieldName::Whole
+        | FieldName::Single => false,
     }
 }
 
@@ -118,6 +204,7 @@ fn hear_field(
     dir: Dir,
     place: Place,
     keys: &Keys,
+    block: &Option<Soft>,
     soft: &[i16; 510],
     type5: &mut Soft,
     field: &mut FrontField,
@@ -125,11 +212,15 @@ fn hear_field(
     requires soft { AllSoft soft.now }
     requires none { keys.now.none ≡ zero_key_bits }
     requires place { FitsSpot dir place }
-    ensures { field.new ≡ field_heard dir keys.now.colour soft.now place }
+    ensures { field.new ≡ field_heard dir keys.now.colour block.now soft.now place }
 {
     field.name = place.name;
-    let values = field.soft.get_or_insert_with(Soft::new);
-    hear(dir, place, keys, soft, type5, values);
+    if is_spread(place.name) {
+        field.soft = block.as_ref().map(Soft::copy);
+    } else {
+        let values = field.soft.get_or_insert_with(Soft::new);
+        hear(dir, place, keys, soft, type5, values);
+    }
 }
 
 /// The fields at these places with their values, written over as many fields that are there.
@@ -137,6 +228,7 @@ pub fn hear_fields(
     dir: Dir,
     places: &[Place],
     keys: &Keys,
+    block: &Option<Soft>,
     soft: &[i16; 510],
     type5: &mut Soft,
     fields: &mut [FrontField],
@@ -145,10 +237,10 @@ pub fn hear_fields(
     requires none { keys.now.none ≡ zero_key_bits }
     requires fit { All (FitsSpot dir) places.now }
     requires as_many { length fields.old ≡ length places.now }
-    ensures { fields.new ≡ map (field_heard dir keys.now.colour soft.now) places.now }
+    ensures { fields.new ≡ map (field_heard dir keys.now.colour block.now soft.now) places.now }
 {
     for i in 0..places.len() {
-        hear_field(dir, places[i], keys, soft, type5, &mut fields[i]);
+        hear_field(dir, places[i], keys, block, soft, type5, &mut fields[i]);
     }
 }
 
@@ -158,6 +250,7 @@ fn read_field(
     settings: &Settings,
     place: Place,
     keys: &Keys,
+    block: &Option<Soft>,
     soft: &[i16; 510],
     scratch: &mut Scratch,
     field: &mut Field,
@@ -165,8 +258,14 @@ fn read_field(
     requires soft { AllSoft soft.now }
     requires none { keys.now.none ≡ zero_key_bits }
     requires place { FitsSpot settings.now.dir place }
-    ensures { field.new ≡ field_of_place settings.now keys.now.colour soft.now place }
+    requires block { IfSome block.now (λ values. length values ≡ 432) }
+    ensures { field.new ≡ field_of_place settings.now keys.now.colour block.now soft.now place }
 {
+    field.name = place.name;
+    if is_spread(place.name) {
+        read_block(place.name, &settings.rows, block, &mut field.reading);
+        return;
+    }
     hear(
         settings.dir,
         place,
@@ -175,7 +274,6 @@ fn read_field(
         &mut scratch.type5,
         &mut scratch.values,
     );
-    field.name = place.name;
     read(
         place.name,
         &settings.rows,
@@ -189,6 +287,7 @@ pub fn read_fields(
     settings: &Settings,
     places: &[Place],
     keys: &Keys,
+    block: &Option<Soft>,
     soft: &[i16; 510],
     scratch: &mut Scratch,
     fields: &mut [Field],
@@ -196,11 +295,20 @@ pub fn read_fields(
     requires soft { AllSoft soft.now }
     requires none { keys.now.none ≡ zero_key_bits }
     requires fit { All (FitsSpot settings.now.dir) places.now }
+    requires block { IfSome block.now (λ values. length values ≡ 432) }
     requires as_many { length fields.old ≡ length places.now }
-    ensures { fields.new ≡ map (field_of_place settings.now keys.now.colour soft.now) places.now }
+    ensures { fields.new ≡ map (field_of_place settings.now keys.now.colour block.now soft.now) places.now }
 {
     for i in 0..places.len() {
-        read_field(settings, places[i], keys, soft, scratch, &mut fields[i]);
+        read_field(
+            settings,
+            places[i],
+            keys,
+            block,
+            soft,
+            scratch,
+            &mut fields[i],
+        );
     }
 }
 

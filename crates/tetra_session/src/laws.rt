@@ -1,9 +1,11 @@
 // Laws of what is sent and what is read.
 ghost use Rattle.tetra_session.specs.Apart.{HeardApart, SentApart};
 ghost use Rattle.tetra_session.specs.Arrives.{SlotsArrive, WrittenSlotsArrive};
+ghost use Rattle.tetra_session.specs.Data.{DataArrives};
 
 use tetra_bursts::{fields_arrive, kind_arrives, written_arrives};
-use tetra_channels::{Aach, Bsch, Full, Half, Hu, Raw72};
+use tetra_channels::{Aach, Bsch, Data24, Data48, Full, Half, Hu, Raw72};
+use tetra_diag::undamaged_arrives;
 
 /// A law: what is sent in a timeslot depends on no other timeslot. Settings that agree in direction, colour, rows of
 /// the access code, place of slot 0 and the timeslot's mode, and blocks that are equal in its slots, give equal slots there.
@@ -19,7 +21,7 @@ pub fn heard_apart()
 
 /// A law: an undamaged slot of letter F, H, S, T or C, after any others, has the letter that was written. Its fields
 /// equal the blocks, with their parity where they have one, but for the field of a subslot that was silent; the metric is
-/// 0, and the mark is Good where there is parity.
+/// 0, and the mark is Good where there is parity. Of protected data `data_arrives` says the same.
 pub fn slots_arrive()
     ensures { SlotsArrive }
 {
@@ -31,6 +33,20 @@ pub fn slots_arrive()
     Aach::undamaged_is_read();
     fields_arrive();
     kind_arrives();
+}
+
+/// A law: of a timeslot of protected data over N slots, after any others, the field is not yet there in the first N - 1
+/// traffic slots. Where the N slots of a block all came undamaged, it is read as written, with metric 0, at the last of
+/// them.
+pub fn data_arrives()
+    ensures { DataArrives }
+{
+    Data48::undamaged_word_arrives();
+    Data24::undamaged_word_arrives();
+    Data48::undamaged_word_is_read();
+    Data24::undamaged_word_is_read();
+    undamaged_arrives();
+    fields_arrive();
 }
 
 /// A law: a slot that is received as it was written is undamaged. It has 510 soft values.

@@ -4,15 +4,17 @@
 mod built;
 mod fields;
 mod front;
+mod gathering;
 mod keys;
 mod laws;
 mod receiver;
 mod sender;
 mod spots;
+mod spreading;
 mod words;
 
 pub use built::{is_built, is_built_letter};
 pub use front::{Front, FrontField};
-pub use laws::{heard_apart, sent_apart, slots_arrive, written_slots_arrive};
+pub use laws::{data_arrives, heard_apart, sent_apart, slots_arrive, written_slots_arrive};
 pub use receiver::Receiver;
 pub use sender::Sender;

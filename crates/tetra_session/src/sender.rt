@@ -1,14 +1,17 @@
 // Sending, slot by slot.
 ghost use Rattle.std.specs.Prelude.{◌≡◌, ◌≢◌, ◌<◌, ◌++◌, ◌∷◌, [], List, IsTrue, IfSome, length};
 ghost use Rattle.tetra_scramble.specs.Key.{key_of, zero_key_bits};
+ghost use Rattle.tetra_settings.specs.Validity.{IsValid};
 ghost use Rattle.tetra_session.specs.Built.{is_built};
+ghost use Rattle.tetra_session.specs.lemmas.Valid.{IsValid-prop};
 
 use crate::keys::Keys;
+use crate::spreading::{SpreadLane, load_word};
 use crate::words::{first_half, second_half};
 use tetra_bits::Bits;
 use tetra_bursts::{Train, control_up, normal_down, normal_up, sync_down};
-use tetra_channels::{Aach, Bsch, Full, Half, Hu, Raw72};
-use tetra_settings::{Body, Dir, Settings, SlotBlocks};
+use tetra_channels::{Aach, Bsch, Full, Half, Hu};
+use tetra_settings::{Body, Dir, Settings, SlotBlocks, clock, mode_at};
 
 /// A sender of slots, four timeslots side by side. It stands for its settings and for the blocks that it was given so
 /// far. This project's own.
@@ -18,6 +21,9 @@ pub struct Sender {
     keys: Keys,
     /// The number of slots so far, so that of the slot whose turn it is.
     turn: u32,
+    /// What is kept of timeslots 1 to 4.
+    lanes: [SpreadLane; 4],
+    ghost valid: { IsValid settings } by { IsValid-prop settings },
     ghost built: { IsTrue (is_built settings) },
     ghost keyed: { keys.colour ≡ key_of settings.colour },
     ghost none_keyed: { keys.none ≡ zero_key_bits },
@@ -27,7 +33,6 @@ impl Sender {
     ghost use Rattle.std.specs.Option.{option_map};
     ghost use Rattle.tetra_bursts.specs.Bursts.{control_up_slot};
     ghost use Rattle.tetra_session.specs.Sent.{slot_of, access_of, subslot_bits, whole, Normal};
-    ghost use Rattle.tetra_settings.specs.Validity.{IsValid};
     ghost use Rattle.tetra_settings.specs.Slots.{byte_of};
     ghost use Rattle.tetra_settings.specs.Blocks.{Fits, letter_of};
     ghost use Rattle.tetra_settings.specs.declared.blocks.SlotBlocks.{SlotBlocks};
@@ -40,10 +45,17 @@ impl Sender {
         requires built { IsBuilt settings.now }
         ensures { SenderStands settings.now [] result }
     {
+        let [first, second, third, fourth] = settings.modes;
         Sender {
             settings: *settings,
             keys: Keys::new(&settings.colour),
             turn: 0,
+            lanes: [
+                SpreadLane::new(first),
+                SpreadLane::new(second),
+                SpreadLane::new(third),
+                SpreadLane::new(fourth),
+            ],
         }
     }
 
@@ -59,6 +71,8 @@ impl Sender {
         ensures stands { (settings : _) (history : List SlotBlocks) → SenderStands settings history self.old
             → SenderStands settings (history ++ blocks.now ∷ []) self.new }
     {
+        let (timeslot, _, _) = clock(self.settings.at, self.turn);
+        let mode = mode_at(&self.settings, self.turn);
         self.turn += 1;
         let access = self.access(blocks.aach);
         match &blocks.body {
@@ -78,11 +92,11 @@ impl Sender {
                 &access,
                 &Half::encode(half, &self.keys.colour),
             ),
-            Body::Traffic { load } => self.whole(
-                Train::N,
-                &access,
-                &Raw72::encode(load, &self.keys.colour),
-            ),
+            Body::Traffic { load } => {
+                let lane = &mut self.lanes[usize::from(timeslot) - 1];
+                let word = load_word(lane, mode, load, &self.keys.colour);
+                self.whole(Train::N, &access, &word)
+            }
             Body::Control { first, second } => self.control(first.as_ref(), second.as_ref()),
             Body::Stolen { .. } | Body::Both { .. } => unreachable!(),
         }

@@ -1,14 +1,15 @@
 -- What is read of a field: its sizes, and how great its numbers are.
-use Rattle.std.proofs.Common.{◌≡◌, ℕ, ◌+◌, ◌*◌, ◌<◌, ◌≤◌, inl, inr, Bool, true, false, List, [], ℤ, length, get_or, arith, refl, le_trans, mul-le-mul_left, ◌∙◌}
+use Rattle.std.proofs.Common.{◌≡◌, ℕ, ◌+◌, ◌*◌, ◌<◌, ◌≤◌, inl, inr, Bool, true, false, List, [], Option, None, Some, ℤ, length, get_or, arith, refl, le_trans, mul-le-mul_left, ◌∙◌}
+use Rattle.std.specs.Prelude.{MatchOption, IfSome}
 use Rattle.std.proofs.lemmas.Bool.{cases_lt}
-use Rattle.std.proofs.lemmas.List.{get_or_past}
+use Rattle.std.proofs.lemmas.List.{get_or_past, length-replicate}
 use Rattle.tetra_bits.specs.Cost.{metric}
 use Rattle.tetra_bits.specs.Plain.{best_plain}
 use Rattle.tetra_bits.specs.Readings.{entry}
 use Rattle.tetra_bits.specs.Soft.{AllWithin}
 use Rattle.tetra_bits.specs.lemmas.Best.{best_is_first}
 use Rattle.tetra_bits.specs.lemmas.Within.{metric_within}
-use Rattle.tetra_channels.specs.Channels.{Channel, bsch, hu, half, full}
+use Rattle.tetra_channels.specs.Channels.{Channel, bsch, hu, half, full, data48, data24}
 use Rattle.tetra_channels.specs.Fields.{coded_reading, raw_reading, access_reading}
 use Rattle.tetra_parity.specs.Marks.{mark_by, mark_of}
 use Rattle.tetra_parity.specs.Parity.{holds_of}
@@ -20,12 +21,12 @@ use Rattle.tetra_puncture.specs.ToGo.{potentials_of}
 use Rattle.tetra_puncture.specs.lemmas.Bounds.{message_metric_within}
 use Rattle.tetra_puncture.specs.lemmas.Shapes.{length-best_of, length-potentials_of, length-row_of_potentials, potential_within}
 use Rattle.tetra_rm.specs.Code.{access_word, access_metric, best_access}
-use Rattle.tetra_settings.specs.Readings.{sizes, message_bits, certificate_rows, IsMarked, rows_of, IsField}
+use Rattle.tetra_settings.specs.Readings.{sizes, message_bits, certificate_rows, IsMarked, MayBeNotYet, rows_of, IsField}
 use Rattle.tetra_settings.specs.declared.readings.FieldName.{FieldName}
 use Rattle.tetra_settings.specs.declared.readings.FieldName.TheVariants.{Aach, Sync, Half, Hu, Full, D72, D48, D24, Whole, Single}
 use Rattle.tetra_session.specs.Built.{IsBuiltName}
 use Rattle.tetra_session.specs.Fronts.{IsBounded}
-use Rattle.tetra_session.specs.Readers.{reader, read_by}
+use Rattle.tetra_session.specs.Readers.{reader, read_by, not_yet, field_reading}
 use Rattle.tetra_session.specs.lemmas.Plans.{HasPlanLaws, reader_laws}
 
 -- the mark of a message that is there
@@ -87,8 +88,8 @@ field_formed Half rows values built h = coded_field Half half values (reader_law
 field_formed Hu rows values built h = coded_field Hu hu values (reader_laws Hu) refl
 field_formed Full rows values built h = coded_field Full full values (reader_laws Full) refl
 field_formed D72 rows values built h = raw_field values h
-field_formed D48 rows values built h = absurd built
-field_formed D24 rows values built h = absurd built
+field_formed D48 rows values built h = coded_field D48 data48 values (reader_laws D48) refl
+field_formed D24 rows values built h = coded_field D24 data24 values (reader_laws D24) refl
 field_formed Whole rows values built h = absurd built
 field_formed Single rows values built h = absurd built
 
@@ -137,7 +138,29 @@ field_bounded top Half rows values built h all = coded_bounded top Half half val
 field_bounded top Hu rows values built h all = coded_bounded top Hu hu values (reader_laws Hu) all (few_of Hu values (omega arith) h)
 field_bounded top Full rows values built h all = coded_bounded top Full full values (reader_laws Full) all (few_of Full values (omega arith) h)
 field_bounded top D72 rows values built h all = raw_bounded top values
-field_bounded top D48 rows values built h all = absurd built
-field_bounded top D24 rows values built h all = absurd built
+field_bounded top D48 rows values built h all = coded_bounded top D48 data48 values (reader_laws D48) all (few_of D48 values (omega arith) h)
+field_bounded top D24 rows values built h all = coded_bounded top D24 data24 values (reader_laws D24) all (few_of D24 values (omega arith) h)
 field_bounded top Whole rows values built h all = absurd built
 field_bounded top Single rows values built h all = absurd built
+
+-- the reading of a block that is not there yet
+not_yet_formed : (name : FieldName) → MayBeNotYet name → IsField (record { name = name; reading = not_yet name })
+unfolding not_yet
+not_yet_formed name h = record { bits = length-replicate (message_bits name) false; mark = h; potentials = refl }
+
+not_yet_bounded : (top : ℕ) (name : FieldName) → IsBounded top (record { name = name; reading = not_yet name })
+unfolding not_yet
+not_yet_bounded top name = record { metric = omega arith; potentials = tt }
+
+-- a field with its values, or that is not there yet
+pub reading_formed_of : (name : FieldName) (rows : List ℕ) (soft : Option (List ℤ)) → IsBuiltName name
+    → MatchOption soft (MayBeNotYet name) (λ values. length values ≡ (sizes name).values)
+    → IsField (record { name = name; reading = field_reading rows name soft })
+reading_formed_of name rows None built h = not_yet_formed name h
+reading_formed_of name rows (Some values) built h = field_formed name rows values built h
+
+pub reading_bounded_of : (top : ℕ) (name : FieldName) (rows : List ℕ) (soft : Option (List ℤ)) → IsBuiltName name
+    → MatchOption soft (MayBeNotYet name) (λ values. length values ≡ (sizes name).values) → IfSome soft (AllWithin top)
+    → IsBounded top (record { name = name; reading = field_reading rows name soft })
+reading_bounded_of top name rows None built h within = not_yet_bounded top name
+reading_bounded_of top name rows (Some values) built h within = field_bounded top name rows values built h within

@@ -1,14 +1,13 @@
 -- The modes of settings that are built.
-use Rattle.std.proofs.Common.{ℕ, ◌-◌, ◌≡◌, inl, inr, Bool, true, false, List, length, get_or, refl, sym, ap, ◌∙◌}
+use Rattle.std.proofs.Common.{ℕ, ◌≡◌, inl, inr, Bool, true, false, List, length, get_or, refl, sym, ap, ◌∙◌}
 use Rattle.std.proofs.lemmas.Bool.{cases_lt}
 use Rattle.std.proofs.lemmas.List.{get_or_past}
 use Rattle.std.proofs.lemmas.List.Folds.{list_all_at}
 use Rattle.std.specs.List.{list_all}
 use Rattle.tetra_settings.specs.declared.types.Mode.{Mode}
-use Rattle.tetra_settings.specs.declared.types.Mode.TheVariants.{Sig, Cb, D72, D48, D24, Speech}
+use Rattle.tetra_settings.specs.declared.types.Mode.TheVariants.{Sig}
 use Rattle.tetra_settings.specs.declared.types.Settings.{Settings}
 use Rattle.tetra_session.specs.Built.{is_built, is_built_mode}
-use Rattle.tetra_session.specs.Time.{timeslot_mode, depth}
 
 built_in : (modes : List Mode) (i : ℕ) (b : Bool) → is_built_mode (get_or modes i Sig) ≡ b → list_all is_built_mode modes ≡ true → b ≡ true
 built_in modes i true e all = refl
@@ -22,15 +21,3 @@ built_in modes i false e all =
 pub mode_built : (settings : Settings) (i : ℕ) → is_built settings ≡ true → is_built_mode (get_or settings.modes i Sig) ≡ true
 mode_built settings i h =
     built_in settings.modes i (is_built_mode (get_or settings.modes i Sig)) refl h
-
-depth_none : (mode : Mode) → is_built_mode mode ≡ true → depth mode ≡ 0
-depth_none Sig h = refl
-depth_none D72 h = refl
-depth_none Cb h = refl
-depth_none (D48 span) h = absurd cc
-depth_none (D24 span) h = absurd cc
-depth_none Speech h = absurd cc
-
--- nothing is kept of a timeslot
-pub nothing_kept : (settings : Settings) (c : ℕ) → is_built settings ≡ true → depth (timeslot_mode settings c) ≡ 0
-nothing_kept settings c h = depth_none (timeslot_mode settings c) (mode_built settings (c - 1) h)

@@ -5,6 +5,8 @@ use Rattle.tetra_bursts.specs.Kind.{kind}
 use Rattle.tetra_bursts.specs.declared.table.Train.{Train}
 use Rattle.tetra_bursts.specs.declared.table.Train.TheVariants.{N, P as PTrain, Y}
 use Rattle.tetra_settings.specs.Slots.{timeslot_of, frame_of, mode_of, use_of, use_in, byte_of}
+use Rattle.tetra_settings.specs.Blocks.{IsTrafficMode}
+use Rattle.tetra_settings.specs.Readings.{traffic_name}
 use Rattle.tetra_settings.specs.Validity.{HasMode, IsValid}
 use Rattle.tetra_settings.specs.declared.types.Dir.{Dir}
 use Rattle.tetra_settings.specs.declared.types.Dir.TheVariants.{Dl, Ul}
@@ -15,7 +17,7 @@ use Rattle.tetra_settings.specs.declared.slots.Letter.{Letter}
 use Rattle.tetra_settings.specs.declared.slots.Letter.TheVariants.{F, H, S, T, C}
 use Rattle.tetra_settings.specs.declared.slots.SlotUse.{SlotUse}
 use Rattle.tetra_settings.specs.declared.slots.SlotUse.TheVariants.{Signalling, Traffic}
-use Rattle.tetra_settings.specs.declared.readings.FieldName.TheVariants.{Aach, Sync, Half, Hu, Full, D72 as D72Field}
+use Rattle.tetra_settings.specs.declared.readings.FieldName.TheVariants.{Aach, Sync, Half, Hu, Full, D72 as D72Field, D48 as D48Field, D24 as D24Field, Whole}
 use Rattle.tetra_session.specs.Built.{is_built, is_built_mode, IsBuiltLetter}
 use Rattle.tetra_session.specs.Heard.{allowed_in, letter_by, letter_heard, slot_letter}
 use Rattle.tetra_session.specs.Spots.{place, places_of, is_downlink, FitsSpot, ArePlaces}
@@ -53,6 +55,12 @@ full dir = record { built = tt; here = tt; size = refl }
 
 raw : (dir : Dir) → FitsSpot dir (place D72Field WholeSlot)
 raw dir = record { built = tt; here = tt; size = refl }
+
+data_48 : (dir : Dir) → FitsSpot dir (place D48Field WholeSlot)
+data_48 dir = record { built = tt; here = tt; size = refl }
+
+data_24 : (dir : Dir) → FitsSpot dir (place D24Field WholeSlot)
+data_24 dir = record { built = tt; here = tt; size = refl }
 
 first_sub : FitsSpot Ul (place Hu FirstSubslot)
 first_sub = record { built = tt; here = refl; size = refl }
@@ -92,17 +100,26 @@ control_up mode = record {
   few = omega arith;
 }
 
-raw_places : (dir : Dir) → ArePlaces dir T (places_of dir T D72)
-raw_places Dl = record {
-  row = (T, D72, tt, tt, refl, inr refl);
-  fit = two Dl (place Aach Access) (place D72Field WholeSlot) access (raw Dl);
+-- traffic whose field fits
+whole_places : (dir : Dir) (mode : Mode) → IsTrafficMode mode → ((d : Dir) → FitsSpot d (place (traffic_name mode Whole) WholeSlot)) → ArePlaces dir T (places_of dir T mode)
+whole_places Dl mode traffic fits = record {
+  row = (T, mode, tt, traffic, refl, inr refl);
+  fit = two Dl (place Aach Access) (place (traffic_name mode Whole) WholeSlot) access (fits Dl);
   few = omega arith;
 }
-raw_places Ul = record {
-  row = (T, D72, tt, tt, refl, inl refl);
-  fit = one Ul (place D72Field WholeSlot) (raw Ul);
+whole_places Ul mode traffic fits = record {
+  row = (T, mode, tt, traffic, refl, inl refl);
+  fit = one Ul (place (traffic_name mode Whole) WholeSlot) (fits Ul);
   few = omega arith;
 }
+
+data_places : (dir : Dir) (mode : Mode) → IsTrafficMode mode → is_built_mode mode ≡ true → ArePlaces dir T (places_of dir T mode)
+data_places dir Sig traffic built = absurd traffic
+data_places dir Cb traffic built = absurd traffic
+data_places dir D72 traffic built = whole_places dir D72 tt raw
+data_places dir (D48 span) traffic built = whole_places dir (D48 span) tt data_48
+data_places dir (D24 span) traffic built = whole_places dir (D24 span) tt data_24
+data_places dir Speech traffic built = absurd cc
 
 -- the letter of a slot of a use
 abbrev letter_in : Dir → SlotUse → List ℤ → Letter
@@ -113,16 +130,18 @@ unfolding kind
 signalling Dl mode soft = signalling_down mode (kind soft true (allowed_in Dl Signalling))
 signalling Ul mode soft = signalling_up mode
 
-traffic_by : (dir : Dir) (train : Train) → IsBuiltLetter (byte_of (letter_by Traffic train)) → ArePlaces dir (letter_by Traffic train) (places_of dir (letter_by Traffic train) D72)
-traffic_by dir N h = raw_places dir
-traffic_by dir PTrain h = absurd cc
-traffic_by dir Y h = raw_places dir
+traffic_by : (dir : Dir) (mode : Mode) (train : Train) → ArePlaces dir T (places_of dir T mode) → IsBuiltLetter (byte_of (letter_by Traffic train))
+    → ArePlaces dir (letter_by Traffic train) (places_of dir (letter_by Traffic train) mode)
+traffic_by dir mode N places h = places
+traffic_by dir mode PTrain places h = absurd cc
+traffic_by dir mode Y places h = places
 
--- frame 18 of unprotected data is signalling
-raw_by : (dir : Dir) (soft : List ℤ) (last : Bool) → IsBuiltLetter (byte_of (letter_in dir (if last then Signalling else Traffic) soft))
-    → ArePlaces dir (letter_in dir (if last then Signalling else Traffic) soft) (places_of dir (letter_in dir (if last then Signalling else Traffic) soft) D72)
-raw_by dir soft true h = signalling dir D72 soft
-raw_by dir soft false h = traffic_by dir (kind soft (is_downlink dir) (allowed_in dir Traffic)) h
+-- frame 18 of a traffic timeslot is signalling
+traffic_frame : (dir : Dir) (mode : Mode) (soft : List ℤ) (last : Bool) → ArePlaces dir T (places_of dir T mode)
+    → IsBuiltLetter (byte_of (letter_in dir (if last then Signalling else Traffic) soft))
+    → ArePlaces dir (letter_in dir (if last then Signalling else Traffic) soft) (places_of dir (letter_in dir (if last then Signalling else Traffic) soft) mode)
+traffic_frame dir mode soft true places h = signalling dir mode soft
+traffic_frame dir mode soft false places h = traffic_by dir mode (kind soft (is_downlink dir) (allowed_in dir Traffic)) places h
 
 by_mode : (dir : Dir) (mode : Mode) (frame : ℕ) (soft : List ℤ) → HasMode dir mode → is_built_mode mode ≡ true
     → IsBuiltLetter (byte_of (letter_in dir (use_in mode frame) soft))
@@ -130,9 +149,9 @@ by_mode : (dir : Dir) (mode : Mode) (frame : ℕ) (soft : List ℤ) → HasMode 
 by_mode dir Sig frame soft has built h = signalling dir Sig soft
 by_mode Dl Cb frame soft has built h = absurd has
 by_mode Ul Cb frame soft has built h = control_up Cb
-by_mode dir D72 frame soft has built h = raw_by dir soft (nat_eq frame 18) h
-by_mode dir (D48 span) frame soft has built h = absurd cc
-by_mode dir (D24 span) frame soft has built h = absurd cc
+by_mode dir D72 frame soft has built h = traffic_frame dir D72 soft (nat_eq frame 18) (data_places dir D72 tt built) h
+by_mode dir (D48 span) frame soft has built h = traffic_frame dir (D48 span) soft (nat_eq frame 18) (data_places dir (D48 span) tt built) h
+by_mode dir (D24 span) frame soft has built h = traffic_frame dir (D24 span) soft (nat_eq frame 18) (data_places dir (D24 span) tt built) h
 by_mode dir Speech frame soft has built h = absurd cc
 
 -- a slot of built settings whose letter is built: its letter and the names of its fields are a row, and each place fits

@@ -1,8 +1,9 @@
 -- The values of the fields of a slot: how many they are, and how great.
-use Rattle.std.proofs.Common.{◌≡◌, ℕ, ◌-◌, Bool, true, false, cond, List, [], ◌∷◌, ℤ, pos, length, take, drop, refl, ◌∙◌}
+use Rattle.std.proofs.Common.{◌≡◌, ℕ, ◌+◌, ◌-◌, Bool, true, false, cond, nat_lt, List, [], ◌∷◌, ◌++◌, Option, None, Some, ℤ, pos, length, take, drop, refl, ◌∙◌}
+use Rattle.std.specs.Prelude.{All, MatchOption, IfSome}
 use Rattle.std.proofs.lemmas.List.{length-append}
-use Rattle.std.proofs.lemmas.List.Elements.{All-nil, All-append, All-take, All-drop}
-use Rattle.tetra_bits.specs.Numbered.{all_numbered}
+use Rattle.std.proofs.lemmas.List.Elements.{All-nil, All-cons, All-head, All-tail, All-append, All-push, All-map, All-weaker, All-take, All-drop}
+use Rattle.tetra_bits.specs.Numbered.{numbered, all_numbered, length-numbered}
 use Rattle.tetra_bits.specs.Soft.{IsWithin, AllWithin}
 use Rattle.tetra_bits.specs.lemmas.Within.{within_at}
 use Rattle.tetra_bursts.specs.Table.{is_part, normal_down, sync_down, control_up}
@@ -12,19 +13,26 @@ use Rattle.tetra_bursts.specs.declared.table.Part.{Part}
 use Rattle.tetra_bursts.specs.declared.table.Part.TheVariants.{First, Second, Aach as AachPart, Sync as SyncPart}
 use Rattle.tetra_bursts.specs.declared.table.Span.{Span}
 use Rattle.tetra_bursts.specs.declared.table.Train.TheVariants.{N}
-use Rattle.tetra_channels.specs.Channels.{Channel, bsch, hu, half, full, type4_place, front_values}
+use Rattle.tetra_channels.specs.Channels.{Channel, bsch, hu, half, full, data48, data24, type4_place, front_values}
+use Rattle.tetra_diag.specs.Diagonal.{gathered_value, gathered}
+use Rattle.tetra_diag.specs.lemmas.Within.{gathered_within}
 use Rattle.tetra_interleave.specs.Placed.{taken, entry_from}
 use Rattle.tetra_interleave.specs.lemmas.Placed.{length-taken}
 use Rattle.tetra_scramble.specs.Flips.{turned}
 use Rattle.tetra_scramble.specs.lemmas.Entries.{length-turned, turned_within}
-use Rattle.tetra_settings.specs.Readings.{sizes}
+use Rattle.tetra_scramble.specs.Key.{key_of}
+use Rattle.tetra_settings.specs.Readings.{sizes, MayBeNotYet, traffic_name}
+use Rattle.tetra_settings.specs.Slots.{timeslot_of, mode_of}
 use Rattle.tetra_settings.specs.declared.types.Dir.{Dir}
+use Rattle.tetra_settings.specs.declared.types.Mode.{Mode}
+use Rattle.tetra_settings.specs.declared.types.Settings.{Settings}
 use Rattle.tetra_settings.specs.declared.readings.FieldName.{FieldName}
 use Rattle.tetra_settings.specs.declared.readings.FieldName.TheVariants.{Aach, Sync, Half, Hu, Full, D72, D48, D24, Whole, Single}
 use Rattle.tetra_session.specs.Built.{IsBuiltName}
-use Rattle.tetra_session.specs.Heard.{key_for, place_values}
+use Rattle.tetra_session.specs.Heard.{key_for, place_values, word_heard, words_heard, block_heard, is_spread, values_of}
 use Rattle.tetra_session.specs.Readers.{Reader, Access, Plain, Trellis, NotBuilt, reader, heard_by}
-use Rattle.tetra_session.specs.Spots.{is_downlink, spot_values, spot_size, FitsSpot}
+use Rattle.tetra_session.specs.Spots.{is_downlink, place, spot_values, spot_size, FitsSpot}
+use Rattle.tetra_session.specs.Time.{timeslot_mode, depth, counts, picked, own}
 use Rattle.tetra_session.specs.declared.spots.Place.{Place}
 use Rattle.tetra_session.specs.declared.spots.Spot.{Spot}
 use Rattle.tetra_session.specs.declared.spots.Spot.TheVariants.{Access as AccessSpot, SyncAccess, Sync as SyncSpot, FirstBlock, SecondBlock, WholeSlot, FirstSubslot, SecondSubslot}
@@ -96,8 +104,8 @@ heard_size Half key values built h = length-taken (pos 0) 216 (type4_place half)
 heard_size Hu key values built h = length-taken (pos 0) 168 (type4_place hu) (turned values key 1)
 heard_size Full key values built h = length-taken (pos 0) 432 (type4_place full) (turned values key 1)
 heard_size D72 key values built h = length-turned values key 1 ∙ h
-heard_size D48 key values built h = absurd built
-heard_size D24 key values built h = absurd built
+heard_size D48 key values built h = length-taken (pos 0) 432 (type4_place data48) (turned values key 1)
+heard_size D24 key values built h = length-taken (pos 0) 432 (type4_place data24) (turned values key 1)
 heard_size Whole key values built h = absurd built
 heard_size Single key values built h = absurd built
 
@@ -106,3 +114,75 @@ pub place_size : FieldsHaveSizes → (dir : Dir) (key : List Bool) (soft : List 
 unfolding place_values
 place_size law dir key soft place fit h =
     heard_size place.name (key_for key place.name) (spot_values dir place.spot soft) fit.built (spot_length law dir place.spot soft h ∙ fit.size)
+
+-- the values of a field are those at its place, or of protected data those of a block
+pub values_size : (name : FieldName) (block : Option (List ℤ)) (values : List ℤ) → IfSome block (λ v. length v ≡ 432) → length values ≡ (sizes name).values
+    → MatchOption (values_of name block values) (MayBeNotYet name) (λ v. length v ≡ (sizes name).values)
+values_size Aach block values whole h = h
+values_size Sync block values whole h = h
+values_size Half block values whole h = h
+values_size Hu block values whole h = h
+values_size Full block values whole h = h
+values_size D72 block values whole h = h
+values_size D48 None values whole h = tt
+values_size D48 (Some v) values whole h = whole
+values_size D24 None values whole h = tt
+values_size D24 (Some v) values whole h = whole
+values_size Whole block values whole h = h
+values_size Single block values whole h = h
+
+pub values_within : (top : ℕ) (name : FieldName) (block : Option (List ℤ)) (values : List ℤ) → IfSome block (AllWithin top) → AllWithin top values
+    → IfSome (values_of name block values) (AllWithin top)
+values_within top name block values of_block of_values =
+    elim (is_spread name) as (λ b. IfSome (cond b block (Some values)) (AllWithin top)) [ true ↦ of_block | false ↦ of_values ]
+
+-- the entries that are picked, and what is brought from them
+picked_all : {X : Type 0} (P : X → Type 0) (meets : ℕ → Bool) (t : ℕ) (xs : List X) → All P xs → All P (picked meets t xs)
+picked_all P meets t [] all = All-nil P
+picked_all P meets t (x ∷ xs) all =
+    let rest : All P (picked meets (t + 1) xs) = picked_all P meets (t + 1) xs (All-tail P x xs all) in
+    elim (meets t) as (λ b. All P (cond b (x ∷ picked meets (t + 1) xs) (picked meets (t + 1) xs))) [
+      | true ↦ All-cons P x (picked meets (t + 1) xs) (All-head P x xs all) rest
+      | false ↦ rest
+    ]
+
+own_all : {X : Type 0} (P : X → Type 0) (at c : ℕ) (history : List X) → All P history → All P (own at c history)
+unfolding own
+own_all P at c history all = picked_all P (counts at c) 0 history all
+
+pub word_within : (top : ℕ) (dir : Dir) (key : List Bool) (mode : Mode) (soft : List ℤ) → AllWithin top soft → AllWithin top (word_heard dir key mode soft)
+unfolding word_heard
+word_within top dir key mode soft all = place_within top dir key soft (place (traffic_name mode Whole) WholeSlot) all
+
+words_within : (top : ℕ) (settings : Settings) (c : ℕ) (history : List (List ℤ)) → All (AllWithin top) history → All (AllWithin top) (words_heard settings c history)
+words_within top settings c history all =
+    All-map (AllWithin top) (word_heard settings.dir (key_of settings.colour) (timeslot_mode settings c)) (own settings.at c history)
+    (All-weaker (AllWithin top) (λ soft. AllWithin top (word_heard settings.dir (key_of settings.colour) (timeslot_mode settings c) soft))
+    (word_within top settings.dir (key_of settings.colour) (timeslot_mode settings c)) (own settings.at c history) (own_all (AllWithin top) settings.at c history all))
+
+-- a block that is complete has 432 values
+gathered_size : (n : ℕ) (words : List (List ℤ)) → IfSome (gathered n words) (λ v. length v ≡ 432)
+unfolding gathered
+gathered_size n words =
+    elim (nat_lt (length words) n) as (λ b. IfSome (cond b None (Some (numbered (gathered_value n words) 432))) (λ v. length v ≡ 432)) [
+      | true ↦ tt
+      | false ↦ length-numbered (gathered_value n words) 432
+    ]
+
+pub block_size : (settings : Settings) (history : List (List ℤ)) (soft : List ℤ) → IfSome (block_heard settings history soft) (λ v. length v ≡ 432)
+unfolding block_heard
+block_size settings history soft =
+    gathered_size (depth (mode_of settings (length history)))
+    (words_heard settings (timeslot_of settings.at (length history)) history ++ word_heard settings.dir (key_of settings.colour) (mode_of settings (length history)) soft ∷ [])
+
+-- and is as great as the slots from which it comes
+pub block_within : (top : ℕ) (settings : Settings) (history : List (List ℤ)) (soft : List ℤ) → All (AllWithin top) history → AllWithin top soft
+    → IfSome (block_heard settings history soft) (AllWithin top)
+unfolding block_heard
+block_within top settings history soft all last =
+    let c = timeslot_of settings.at (length history) in
+    let word = word_heard settings.dir (key_of settings.colour) (mode_of settings (length history)) soft in
+    gathered_within top (words_heard settings c history ++ word ∷ [])
+    (All-push (AllWithin top) (words_heard settings c history) word (words_within top settings c history all)
+    (word_within top settings.dir (key_of settings.colour) (mode_of settings (length history)) soft last))
+    (depth (mode_of settings (length history)))

@@ -1,12 +1,12 @@
 use Rattle.std.proofs.Common.{◌≡◌, ◌∙◌, ℕ, Bool, List, false, None, length, replicate, arith, ap}
 use Rattle.std.proofs.Math.ListN.{length-replicate}
 use Rattle.tetra_bits.specs.declared.reading.Mark.TheVariants.{Unchecked, NotYet}
-use Rattle.tetra_channels.specs.Channels.{bsch, half, hu, full}
+use Rattle.tetra_channels.specs.Channels.{bsch, half, hu, full, data48, data24}
 use Rattle.tetra_session.specs.Readers.{reader}
 use Rattle.tetra_settings.specs.Readings.{sizes, message_bits}
 use Rattle.tetra_settings.specs.declared.readings.FieldName.{FieldName}
 use Rattle.tetra_settings.specs.declared.readings.FieldSizes.{FieldSizes}
-use Rattle.tetra_settings.specs.declared.readings.FieldName.TheVariants.{Aach, Sync, Half, Hu, Full, D72}
+use Rattle.tetra_settings.specs.declared.readings.FieldName.TheVariants.{Aach, Sync, Half, Hu, Full, D72, D48, D24}
 use Rattle.tetra_audit.specs.Parts.{plain_why}
 use Rattle.tetra_audit.proofs.FieldCases.{length_there, length_not_yet, why_coded, why_access, why_raw, why_not_yet, values_there, length-best_plain}
 use Rattle.tetra_audit.proofs.fields.field_fault.Goals as goal
@@ -25,6 +25,12 @@ returns-in-Hu c = c.coded_fault-in-Hu.ensures 13 ∙ why_coded c.args.rows.now.0
 
 pub returns-in-Full : goal.returns-in-Full
 returns-in-Full c = c.coded_fault-in-Full.ensures 103 ∙ why_coded c.args.rows.now.0 c.args.field.now c.in-Some.soft full c.args.bytes.now (ap reader c.in-Full.is) c.in-Some.is
+
+pub returns-in-D48 : goal.returns-in-D48
+returns-in-D48 c = c.coded_fault-in-D48.ensures 103 ∙ why_coded c.args.rows.now.0 c.args.field.now c.in-Some.soft data48 c.args.bytes.now (ap reader c.in-D48.is) c.in-Some.is
+
+pub returns-in-D24 : goal.returns-in-D24
+returns-in-D24 c = c.coded_fault-in-D24.ensures 103 ∙ why_coded c.args.rows.now.0 c.args.field.now c.in-Some.soft data24 c.args.bytes.now (ap reader c.in-D24.is) c.in-Some.is
 
 pub plain_fault-requires : goal.plain_fault-requires
 plain_fault-requires c =
@@ -53,6 +59,12 @@ coded_fault-requires-in-Hu-clause-size c = c.requires.size ∙ length_there c.ar
 
 pub coded_fault-requires-in-Full-clause-size : goal.coded_fault-requires-in-Full-clause-size
 coded_fault-requires-in-Full-clause-size c = c.requires.size ∙ length_there c.args.field.now Full c.in-Some.soft c.in-Full.is c.in-Some.is
+
+pub coded_fault-requires-in-D48-clause-size : goal.coded_fault-requires-in-D48-clause-size
+coded_fault-requires-in-D48-clause-size c = c.requires.size ∙ length_there c.args.field.now D48 c.in-Some.soft c.in-D48.is c.in-Some.is
+
+pub coded_fault-requires-in-D24-clause-size : goal.coded_fault-requires-in-D24-clause-size
+coded_fault-requires-in-D24-clause-size c = c.requires.size ∙ length_there c.args.field.now D24 c.in-Some.soft c.in-D24.is c.in-Some.is
 
 pub plain_fault-requires-in-D72 : goal.plain_fault-requires-in-D72
 plain_fault-requires-in-D72 c =

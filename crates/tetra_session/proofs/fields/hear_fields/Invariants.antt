@@ -5,5 +5,5 @@ use Rattle.tetra_session.proofs.fields.hear_fields.Given as goal
 abbrev pub invariant-loop-i : goal.invariant-loop-i
 invariant-loop-i l = record {
   size : length l.fields ≡ length l.places;
-  so_far : take l.i l.fields ≡ map (field_heard l.dir l.keys.colour l.soft) (take l.i l.places);
+  so_far : take l.i l.fields ≡ map (field_heard l.dir l.keys.colour l.block l.soft) (take l.i l.places);
 }

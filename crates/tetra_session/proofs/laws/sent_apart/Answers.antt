@@ -1,4 +1,4 @@
-use Rattle.tetra_session.proofs.ApartLemmas.{sent_apart}
+use Rattle.tetra_session.proofs.SentApart.{sent_apart}
 use Rattle.tetra_session.proofs.laws.sent_apart.Goals as goal
 
 pub returns : goal.returns

@@ -5,6 +5,7 @@ use Rattle.tetra_session.specs.Heard.{ReceiverStands}
 use Rattle.tetra_engine.specs.Slots.{soft_values}
 use Rattle.tetra_engine.proofs.Framed.{heard_more}
 use Rattle.tetra_engine.proofs.Small.{small_fields}
+use Rattle.tetra_engine.proofs.SoftSlots.{soft_slots}
 use Rattle.tetra_engine.proofs.decoder.DecoderWork.write.Goals as goal
 
 pub returns-clause-stands : goal.returns-clause-stands
@@ -22,4 +23,4 @@ returns-clause-stands g c xs x holds =
 pub put_reading-requires-clause-small : goal.put_reading-requires-clause-small
 put_reading-requires-clause-small g c =
     let (xs, x, holds) = c.requires in
-    small_fields _ (c.slot_into.ensures.bounded (nat_abs SOFT_MAX) holds.holds.soft)
+    small_fields _ (c.slot_into.ensures.bounded _ _ holds.stands.intake.receiver (nat_abs SOFT_MAX) (soft_slots xs) holds.holds.soft)

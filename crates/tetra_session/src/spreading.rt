@@ -1,0 +1,86 @@
+// Spreading the blocks of a timeslot over its slots.
+ghost use Rattle.std.specs.Prelude.{◌≡◌, ◌≤◌, ◌++◌, ◌∷◌, [], ℕ, Bool, List, IsTrue, length};
+ghost use Rattle.tetra_diag.specs.Diagonal.{spread_word};
+ghost use Rattle.tetra_settings.specs.Blocks.{IsTrafficMode, load_bits};
+ghost use Rattle.tetra_settings.specs.declared.slots.Letter.TheVariants as Letter;
+ghost use Rattle.tetra_session.specs.Built.{is_built_mode};
+ghost use Rattle.tetra_session.specs.Sent.{SpreadLaneStands, data_block, load_word};
+ghost use Rattle.tetra_session.specs.Time.{depth, span_slots};
+
+use tetra_bits::Bits;
+use tetra_channels::{Data24, Data48, Raw72};
+use tetra_diag::Spread;
+use tetra_scramble::Key;
+use tetra_settings::{Mode, Span};
+
+/// What a sender keeps of one timeslot: the last blocks of protected data, where its mode spreads them over slots.
+#[derive(Drop)]
+pub enum SpreadLane {
+    /// Nothing is spread.
+    Still,
+    /// Over one slot.
+    One(Spread<1>),
+    /// Over four slots.
+    Four(Spread<4>),
+    /// Over eight slots.
+    Eight(Spread<8>),
+}
+
+impl SpreadLane {
+    /// The lane of a timeslot of this mode, before its first block.
+    pub fn new(mode: Mode) -> SpreadLane
+        ensures { SpreadLaneStands (depth mode) [] result }
+    {
+        match mode {
+            Mode::Sig | Mode::Cb | Mode::D72 | Mode::Speech => SpreadLane::Still,
+            Mode::D48(span) | Mode::D24(span) => SpreadLane::over(span),
+        }
+    }
+
+    fn over(span: Span) -> SpreadLane
+        ensures { SpreadLaneStands (span_slots span) [] result }
+    {
+        match span {
+            Span::One => SpreadLane::One(Spread::new()),
+            Span::Four => SpreadLane::Four(Spread::new()),
+            Span::Eight => SpreadLane::Eight(Spread::new()),
+        }
+    }
+
+    /// Takes the next block, of 432 type-3 bits, and gives the slot word, of 432 bits before the block interleaver; the
+    /// block itself where nothing is spread.
+    pub fn push(&mut self, block: &Bits) -> Bits
+        requires { length block.now ≡ 432 }
+        ensures word { (n : ℕ) (blocks : List (List Bool)) → SpreadLaneStands n blocks self.old → 1 ≤ n
+            → result ≡ spread_word n (blocks ++ block.now ∷ []) }
+        ensures stands { (n : ℕ) (blocks : List (List Bool)) → SpreadLaneStands n blocks self.old
+            → SpreadLaneStands n (blocks ++ block.now ∷ []) self.new }
+        ensures size { length result ≡ 432 }
+    {
+        match self {
+            SpreadLane::Still => block.copy(),
+            SpreadLane::One(spread) => spread.push(block),
+            SpreadLane::Four(spread) => spread.push(block),
+            SpreadLane::Eight(spread) => spread.push(block),
+        }
+    }
+}
+
+/// The 432 type-5 bits of the load of a traffic slot of data; protected data is spread over slots.
+pub fn load_word(lane: &mut SpreadLane, mode: Mode, load: &Bits, key: &Key) -> Bits
+    requires carries { IsTrafficMode mode }
+    requires built { IsTrue (is_built_mode mode) }
+    requires size { length load.now ≡ load_bits mode Letter.T }
+    ensures word { (before : List (List Bool)) → SpreadLaneStands (depth mode) before lane.old
+        → result ≡ load_word key.now mode before load.now }
+    ensures stands { (before : List (List Bool)) → SpreadLaneStands (depth mode) before lane.old
+        → SpreadLaneStands (depth mode) (before ++ data_block mode load.now ∷ []) lane.new }
+    ensures size { length result ≡ 432 }
+{
+    match mode {
+        Mode::D72 => Raw72::encode(load, key),
+        Mode::D48(_) => Data48::encode3(&lane.push(&Data48::type3(load)), key),
+        Mode::D24(_) => Data24::encode3(&lane.push(&Data24::type3(load)), key),
+        Mode::Sig | Mode::Cb | Mode::Speech => unreachable!(),
+    }
+}

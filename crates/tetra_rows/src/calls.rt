@@ -1,9 +1,10 @@
 // Values of single calls that were worked out by hand: bytes, keys, sent places, the parity of SCH/F, the access code,
-// the phase pairs and the ties of the kinds.
+// the phase pairs, the ties of the kinds and four blocks that are spread.
 use std::process::Abort;
 use tetra_bits::{Bits, Soft, cost, soft_of};
 use tetra_bursts::{Allowed, Train, kind, phase_pair};
 use tetra_channels::Full;
+use tetra_diag::{Gather, Spread};
 use tetra_puncture::{P148, P292, Plan, TwoThirds, keep};
 use tetra_rm::{decode, encode, own_rows};
 use tetra_scramble::{Colour, Key, key, zero_key};
@@ -128,5 +129,41 @@ fn kinds_of_nothing(rt: HostRuntime) {
     ] {
         let found = kind(&[0; 510], true, Allowed { n, p, y });
         assert!(rt; found == train);
+    }
+}
+
+/// 432 bits of which this one is 1.
+fn one_at(rt: &impl Abort, place: usize) -> Bits {
+    let mut bits = Bits::new();
+    for k in 0..432usize {
+        assert!(rt; bits.len() < 432);
+        bits.push(k == place);
+    }
+    bits
+}
+
+#[test]
+fn four_blocks_spread_and_gathered(rt: HostRuntime) {
+    let (mut spread, mut gather) = (Spread::<4>::new(), Gather::<4>::new());
+    for m in 0..4usize {
+        let block = one_at(&rt, 7 * m + 3);
+        assert!(rt; block.len() == 432);
+        let word = spread.push(&block);
+        let mut heard = Soft::new();
+        for k in 0..432usize {
+            assert!(rt; k < word.len() && heard.len() < 432);
+            heard.push(if word.get(k) { -127 } else { 127 });
+        }
+        assert!(rt; heard.len() == 432);
+        match gather.push(&heard) {
+            None => assert!(rt; m < 3, "block {m}"),
+            Some(values) => {
+                assert_eq!(rt; m, 3);
+                for k in 0..432usize {
+                    assert!(rt; k < values.len());
+                    assert_eq!(rt; values.get(k), if k == 3 { -127 } else { 127 }, "value {k}");
+                }
+            }
+        }
     }
 }

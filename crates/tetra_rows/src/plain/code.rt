@@ -1,6 +1,6 @@
 // SCH/F and TCH/7.2 on the uplink: EN 300 392-2 clauses 8.2, 8.3.1 and 9.4.4. The silent positions are
 // this project's own.
-ghost use Rattle.std.specs.Prelude.{◌<◌};
+ghost use Rattle.std.specs.Prelude.{◌<◌, ◌*◌, length};
 
 /// The distances of the scrambling recurrence.
 const DISTANCES: [usize; 14] = [1, 2, 4, 5, 7, 8, 10, 11, 12, 16, 22, 23, 26, 32];
@@ -98,8 +98,8 @@ pub fn has_power(i: usize, j: usize) -> bool
 
 /// A bit of the mother code's word: the sum of the bits at the powers of its generator, where the bits before the first
 /// are 0.
-pub fn mother(type2: &[bool; 288], place: usize) -> bool
-    requires { place < 1152 }
+pub fn mother(type2: &[bool], place: usize) -> bool
+    requires { place < 4 * length type2.now }
 {
     let mut sum = false;
     for j in 0..5usize {

@@ -1,0 +1,4 @@
+pub mod Pieces
+pub mod Undamaged
+pub mod Sent
+pub mod Readings

@@ -1,0 +1,7 @@
+-- Facts on the definitions of this crate, with their proofs, for the proofs here and in the crates above. No contract
+-- cites them.
+pub mod ClassPlaces
+pub mod Sorted
+pub mod Strands
+pub mod Sizes
+pub mod Parts

@@ -1,0 +1,103 @@
+// Soft values to frames.
+ghost use Rattle.std.specs.Prelude.{◌≡◌, ◌≤◌, ◌+◌, length, take, drop};
+ghost use Rattle.tetra_speech.specs.Reading.{whole_reading, half_reading};
+ghost use Rattle.tetra_speech.specs.Words.{whole_front, half_front};
+
+use crate::frames::{half_bits, part, whole_bits};
+use tetra_bits::{Bits, Mark, Potentials, Reading, Soft, read_plain};
+use tetra_interleave::Matrix;
+use tetra_parity::{Parity, mark};
+use tetra_puncture::{SpeechHalf, SpeechWhole};
+use tetra_trellis::solve_into;
+
+/// Received values of the 432 type-4 bits of a whole slot in the order of type-3 bits, into a list that is there.
+pub fn whole_front_into(soft: &Soft, values: &mut Soft)
+    requires { length soft.now ≡ 432 }
+    ensures values { values.new ≡ whole_front soft.now }
+    ensures size { length values.new ≡ 432 }
+{
+    Matrix::<24, 18>::soft_back_into(soft, values);
+}
+
+/// The same of the 216 of half a slot.
+pub fn half_front_into(soft: &Soft, values: &mut Soft)
+    requires { length soft.now ≡ 216 }
+    ensures values { values.new ≡ half_front soft.now }
+    ensures size { length values.new ≡ 216 }
+{
+    Matrix::<24, 9>::soft_back_into(soft, values);
+}
+
+/// What is read over the 432 type-3 values of a whole slot: frames A and B and 8 parity bits. The uncoded bits are read
+/// by their signs; the coded ones are the first-least message in coding order, whose metric and costs to go the reading
+/// has. The mark is Good where the parity of class 2 holds, else Bad. This project's own.
+pub fn decode_whole(soft: &Soft) -> Reading
+    requires { length soft.now ≡ 432 }
+    ensures reading { result ≡ whole_reading soft.now }
+    ensures size { length result.bits ≡ 282 }
+{
+    let mut reading = nothing();
+    decode_whole_into(soft, &mut reading);
+    reading
+}
+
+/// The same into a reading that is there, whose potentials are filled in place.
+pub fn decode_whole_into(soft: &Soft, reading: &mut Reading)
+    requires { length soft.now ≡ 432 }
+    ensures reading { reading.new ≡ whole_reading soft.now }
+    ensures size { length reading.new.bits ≡ 282 }
+{
+    let mut message = Bits::new();
+    let potentials = reading.potentials.get_or_insert_with(Potentials::new);
+    reading.metric = solve_into::<SpeechWhole>(&values(soft, 102, 330), &mut message, potentials);
+    reading.mark = mark(Parity::Eight, &part(&message, 112, 68));
+    reading.bits = whole_bits(&read_plain(&values(soft, 0, 102)), &message);
+}
+
+/// What is read over the 216 type-3 values of half a slot: a frame and 4 parity bits, in the same way.
+pub fn decode_half(soft: &Soft) -> Reading
+    requires { length soft.now ≡ 216 }
+    ensures reading { result ≡ half_reading soft.now }
+    ensures size { length result.bits ≡ 141 }
+{
+    let mut reading = nothing();
+    decode_half_into(soft, &mut reading);
+    reading
+}
+
+/// The same into a reading that is there, whose potentials are filled in place.
+pub fn decode_half_into(soft: &Soft, reading: &mut Reading)
+    requires { length soft.now ≡ 216 }
+    ensures reading { reading.new ≡ half_reading soft.now }
+    ensures size { length reading.new.bits ≡ 141 }
+{
+    let mut message = Bits::new();
+    let potentials = reading.potentials.get_or_insert_with(Potentials::new);
+    reading.metric = solve_into::<SpeechHalf>(&values(soft, 51, 165), &mut message, potentials);
+    reading.mark = mark(Parity::Four, &part(&message, 56, 34));
+    reading.bits = half_bits(&read_plain(&values(soft, 0, 51)), &message);
+}
+
+/// So many values from the one at `from` on, which counts from 0.
+pub fn values(soft: &Soft, from: usize, count: usize) -> Soft
+    requires { from + count ≤ length soft.now }
+    ensures values { result ≡ take count (drop from soft.now) }
+    ensures size { length result ≡ count }
+{
+    let _len = soft.len();
+    let mut part = Soft::new();
+    for i in 0..count {
+        part.push(soft.get(from + i));
+    }
+    part
+}
+
+/// A reading without bits, to be written over.
+fn nothing() -> Reading {
+    Reading {
+        mark: Mark::Unchecked,
+        metric: 0,
+        bits: Bits::new(),
+        potentials: None,
+    }
+}

@@ -10,10 +10,11 @@ use Rattle.tetra_bits.specs.declared.reading.Mark.TheVariants.{Unchecked, NotYet
 use Rattle.tetra_bits.specs.declared.reading.Reading.{Reading}
 use Rattle.tetra_bits.specs.lemmas.Best.{best_is_first}
 use Rattle.tetra_channels.specs.Channels.{Channel, bsch, hu, half, full, data48, data24}
-use Rattle.tetra_channels.specs.Fields.{access_reading, coded_reading, raw_reading}
+use Rattle.tetra_channels.specs.Fields.{access_reading, raw_reading}
 use Rattle.tetra_rm.specs.Code.{access_metric, best_access}
+use Rattle.tetra_speech.specs.Reading.{whole_reading}
 use Rattle.tetra_session.specs.Fronts.{IsFrontField}
-use Rattle.tetra_session.specs.Readers.{Trellis, reader, channel_of, read_by, field_reading, not_yet}
+use Rattle.tetra_session.specs.Readers.{whole_speech_part, CodedPart, Reader, Trellis, reader, coded_part, whole_part, read_by, field_reading, not_yet}
 use Rattle.tetra_session.specs.declared.front.FrontField.{FrontField}
 use Rattle.tetra_session.specs.lemmas.Plans.{HasPlanLaws}
 use Rattle.tetra_settings.specs.Readings.{sizes, message_bits, certificate_rows, MayBeNotYet}
@@ -21,9 +22,9 @@ use Rattle.tetra_settings.specs.declared.readings.FieldName.{FieldName}
 use Rattle.tetra_settings.specs.declared.readings.FieldName.TheVariants.{Aach, Sync, Half, Hu, Full, D72, D48, D24, Whole, Single}
 use Rattle.tetra_audit.specs.Agreement.{AreCertified}
 use Rattle.tetra_audit.specs.Fields.{IsAuditedAt, IsAudited, claimed_rows, field_length}
-use Rattle.tetra_audit.specs.Parts.{plain_why, coded_why}
+use Rattle.tetra_audit.specs.Parts.{plain_why, part_why, coded_why}
 use Rattle.tetra_audit.specs.Verdicts.{first_of, field_tests, field_why, plain_tests}
-use Rattle.tetra_audit.proofs.Codes.{laws_of}
+use Rattle.tetra_audit.proofs.Codes.{length-best_plain, has_speech, HasPart, has_whole, laws_of, rows_of}
 
 -- the length of a field
 pub length_there : (field : FrontField) (name : FieldName) (soft : List ℤ) → field.name ≡ name → field.soft ≡ Some soft → field_length field ≡ 3 + bytes_for (message_bits name) + 32 * certificate_rows name
@@ -38,38 +39,37 @@ length_not_yet field f = rw f (omega arith)
 pub values_there : (field : FrontField) (soft : List ℤ) → field.soft ≡ Some soft → IsFrontField field → length soft ≡ (sizes field.name).values
 values_there field soft f is = subst (λ (values : Option (List ℤ)). MatchOption values (MayBeNotYet field.name) (λ v. length v ≡ (sizes field.name).values)) f is.soft
 
--- a field of a channel
+-- a field of which a trellis reads a part
 pub record IsCoded (rows : List ℕ) (name : FieldName) (values : Option (List ℤ)) : Type 0 where
-  pub channel : Channel
+  pub part : CodedPart
   pub soft : List ℤ
-  pub of_channel : channel_of (reader name) ≡ Some channel
+  pub of_part : coded_part (reader name) ≡ Some part
   pub there : values ≡ Some soft
-  pub laws : HasPlanLaws channel (sizes name)
-  pub sent : length soft ≡ channel.plan.sent
-  pub reading : field_reading rows name values ≡ coded_reading channel soft
+  pub many : certificate_rows name ≡ part.plan.steps + 1
+  pub has : HasPart part (message_bits name) soft (field_reading rows name values)
 
 -- a field whose bits come by no trellis
 pub record IsPlain (rows : List ℕ) (name : FieldName) (values : Option (List ℤ)) : Type 0 where
   pub bits : length (field_reading rows name values).bits ≡ message_bits name
   pub none : claimed_rows name values ≡ 0
-  pub tests : (reading : Reading) (bytes : List ℕ) → field_tests (channel_of (reader name)) values reading bytes ≡ plain_tests reading bytes
-  pub certified : AreCertified (channel_of (reader name)) values None
+  pub tests : (reading : Reading) (bytes : List ℕ) → field_tests (coded_part (reader name)) values reading bytes ≡ plain_tests reading bytes
+  pub certified : AreCertified (coded_part (reader name)) values None
   pub alone : (field_reading rows name values).potentials ≡ None
-  pub only : (potentials : Option (List (List ℕ))) → AreCertified (channel_of (reader name)) values potentials → potentials ≡ None
+  pub only : (potentials : Option (List (List ℕ))) → AreCertified (coded_part (reader name)) values potentials → potentials ≡ None
 
 -- a field that is not there yet
-tests_not_yet : (channel : Option Channel) (reading : Reading) (bytes : List ℕ) → field_tests channel None reading bytes ≡ plain_tests reading bytes
+tests_not_yet : (part : Option CodedPart) (reading : Reading) (bytes : List ℕ) → field_tests part None reading bytes ≡ plain_tests reading bytes
 tests_not_yet None reading bytes = refl
-tests_not_yet (Some channel) reading bytes = refl
+tests_not_yet (Some part) reading bytes = refl
 
-nothing_certified : (channel : Option Channel) → AreCertified channel None None
+nothing_certified : (part : Option CodedPart) → AreCertified part None None
 nothing_certified None = tt
-nothing_certified (Some channel) = tt
+nothing_certified (Some part) = tt
 
-no_table : (channel : Option Channel) (potentials : Option (List (List ℕ))) → AreCertified channel None potentials → potentials ≡ None
-no_table channel None is = refl
+no_table : (part : Option CodedPart) (potentials : Option (List (List ℕ))) → AreCertified part None potentials → potentials ≡ None
+no_table part None is = refl
 no_table None (Some table) is = absurd is
-no_table (Some channel) (Some table) is = absurd is
+no_table (Some part) (Some table) is = absurd is
 
 no_code : (soft : List ℤ) (potentials : Option (List (List ℕ))) → AreCertified None (Some soft) potentials → potentials ≡ None
 no_code soft None is = refl
@@ -80,10 +80,10 @@ unfolding not_yet
 not_yet_is rows name = record {
   bits = length-replicate (message_bits name) false;
   none = refl;
-  tests = λ reading bytes. tests_not_yet (channel_of (reader name)) reading bytes;
-  certified = nothing_certified (channel_of (reader name));
+  tests = λ reading bytes. tests_not_yet (coded_part (reader name)) reading bytes;
+  certified = nothing_certified (coded_part (reader name));
   alone = refl;
-  only = λ potentials is. no_table (channel_of (reader name)) potentials is;
+  only = λ potentials is. no_table (coded_part (reader name)) potentials is;
 }
 
 access_is : (rows : List ℕ) (soft : List ℤ) → IsPlain rows Aach (Some soft)
@@ -96,10 +96,6 @@ access_is rows soft = let first = best_is_first 14 (access_metric rows soft) in 
   alone = refl;
   only = λ potentials is. no_code soft potentials is;
 }
-
-pub length-best_plain : (values : List ℤ) → length (best_plain values) ≡ length values
-unfolding best_plain
-length-best_plain values = let first = best_is_first (length values) (metric values) in first.has_length
 
 raw_is : (rows : List ℕ) (soft : List ℤ) → length soft ≡ 432 → IsPlain rows D72 (Some soft)
 unfolding raw_reading
@@ -114,16 +110,25 @@ raw_is rows soft size = record {
 
 coded_is : (rows : List ℕ) (name : FieldName) (soft : List ℤ) (channel : Channel) → reader name ≡ Trellis channel → length soft ≡ channel.plan.sent → IsCoded rows name (Some soft)
 coded_is rows name soft channel e size =
-    let of_channel : channel_of (reader name) ≡ Some channel = ap channel_of e in
+    let laws : HasPlanLaws channel (sizes name) = laws_of name channel e in
     record {
-      channel = channel;
+      part = whole_part channel.plan;
       soft = soft;
-      of_channel = of_channel;
+      of_part = ap coded_part e;
       there = refl;
-      laws = laws_of name channel of_channel;
-      sent = size;
-      reading = ap (λ by_. read_by by_ rows soft) e;
+      many = rows_of name channel laws;
+      has = subst (λ (by_ : Reader). HasPart (whole_part channel.plan) (message_bits name) soft (read_by by_ rows soft)) (sym e) (has_whole name channel soft laws size);
     }
+
+speech_is : (rows : List ℕ) (soft : List ℤ) → length soft ≡ 432 → IsCoded rows Whole (Some soft)
+speech_is rows soft size = record {
+  part = whole_speech_part;
+  soft = soft;
+  of_part = refl;
+  there = refl;
+  many = refl;
+  has = has_speech soft size;
+}
 
 -- each audited field is one or the other
 by_cases : (rows : List ℕ) (name : FieldName) (values : Option (List ℤ)) → MatchOption values (MayBeNotYet name) (λ v. length v ≡ (sizes name).values) → IsAuditedAt name values
@@ -137,17 +142,29 @@ by_cases rows Full (Some soft) is audited = inr (coded_is rows Full soft full re
 by_cases rows D72 (Some soft) is audited = inl (raw_is rows soft is)
 by_cases rows D48 (Some soft) is audited = inr (coded_is rows D48 soft data48 refl is)
 by_cases rows D24 (Some soft) is audited = inr (coded_is rows D24 soft data24 refl is)
-by_cases rows Whole (Some soft) is audited = absurd audited
+by_cases rows Whole (Some soft) is audited = inr (speech_is rows soft is)
 by_cases rows Single (Some soft) is audited = absurd audited
 
 pub plain_or_coded : (rows : List ℕ) (field : FrontField) → IsFrontField field → IsAudited field → IsPlain rows field.name field.soft ⊎ IsCoded rows field.name field.soft
 plain_or_coded rows field is audited = by_cases rows field.name field.soft is.soft audited
 
--- the tests of a field of a channel, of one without a trellis, and of an access field
+-- the tests of a field of which a trellis reads a part, of one of a channel, of one without a trellis, and of an access
+-- field
+pub why_part : (rows : List ℕ) (field : FrontField) (bytes : List ℕ) (coded : IsCoded rows field.name field.soft) → part_why coded.part coded.soft (field_reading rows field.name field.soft) bytes ≡ field_why rows field bytes
+unfolding field_why part_why
+why_part rows field bytes coded =
+    ap (λ (v : Option (List ℤ)). first_of (field_tests (Some coded.part) v (field_reading rows field.name field.soft) bytes)) (sym coded.there)
+    ∙ ap (λ (p : Option CodedPart). first_of (field_tests p field.soft (field_reading rows field.name field.soft) bytes)) (sym coded.of_part)
+
 pub why_coded : (rows : List ℕ) (field : FrontField) (soft : List ℤ) (channel : Channel) (bytes : List ℕ) → reader field.name ≡ Trellis channel → field.soft ≡ Some soft
     → coded_why channel soft bytes ≡ field_why rows field bytes
-unfolding field_why coded_why
+unfolding field_why part_why
 why_coded rows field soft channel bytes e f = rw (f, e) refl
+
+pub why_speech : (rows : List ℕ) (field : FrontField) (soft : List ℤ) (bytes : List ℕ) → field.name ≡ Whole → field.soft ≡ Some soft
+    → part_why whole_speech_part soft (whole_reading soft) bytes ≡ field_why rows field bytes
+unfolding field_why part_why
+why_speech rows field soft bytes e f = rw (f, e) refl
 
 pub why_plain : (rows : List ℕ) (field : FrontField) (bytes : List ℕ) → IsPlain rows field.name field.soft → plain_why (field_reading rows field.name field.soft) bytes ≡ field_why rows field bytes
 unfolding field_why plain_why
@@ -156,7 +173,7 @@ why_plain rows field bytes plain = sym (ap first_of (plain.tests (field_reading 
 pub why_not_yet : (rows : List ℕ) (field : FrontField) (bytes : List ℕ) → field.soft ≡ None
     → plain_why (record { mark = NotYet; metric = 0; bits = replicate (message_bits field.name) false; potentials = None }) bytes ≡ field_why rows field bytes
 unfolding field_why plain_why not_yet
-why_not_yet rows field bytes f = rw f (sym (ap first_of (tests_not_yet (channel_of (reader field.name)) (not_yet field.name) bytes)))
+why_not_yet rows field bytes f = rw f (sym (ap first_of (tests_not_yet (coded_part (reader field.name)) (not_yet field.name) bytes)))
 
 pub why_access : (rows : List ℕ) (field : FrontField) (soft : List ℤ) (bytes : List ℕ) → field.name ≡ Aach → field.soft ≡ Some soft
     → plain_why (access_reading rows soft) bytes ≡ field_why rows field bytes

@@ -1,6 +1,6 @@
 -- The record that is defined for a slot agrees.
 use Prim.Native.Nat.{suc}
-use Rattle.std.proofs.Common.{◌≡◌, inl, inr, ℕ, ◌+◌, ◌*◌, ◌<◌, ◌≤◌, Bool, List, [], ◌∷◌, ◌++◌, length, length-append, map, sum_by, ℤ, Option, Some, None, arith, refl, sym, ap, subst, le_trans, ◌∙◌}
+use Rattle.std.proofs.Common.{◌≡◌, inl, inr, ℕ, ◌+◌, ◌*◌, ◌<◌, ◌≤◌, Bool, List, [], ◌∷◌, ◌++◌, length, drop, length-append, map, sum_by, ℤ, Option, Some, None, arith, refl, sym, ap, subst, le_trans, ◌∙◌}
 use Rattle.std.proofs.lemmas.List.Elements.{All-map, All-weaker}
 use Rattle.std.proofs.lemmas.List.Sums.{sum_by-cons}
 use Rattle.std.proofs.lemmas.Simd.{map-map}
@@ -15,8 +15,6 @@ use Rattle.tetra_bits.specs.declared.reading.Mark.TheVariants.{Good, Bad, Unchec
 use Rattle.tetra_bits.specs.declared.reading.Reading.{Reading}
 use Rattle.tetra_bits.specs.declared.soft.TheConstants.{SOFT_MAX}
 use Rattle.tetra_bursts.specs.Fields.{FieldsHaveSizes}
-use Rattle.tetra_channels.specs.Channels.{Channel}
-use Rattle.tetra_channels.specs.Fields.{coded_reading}
 use Rattle.tetra_puncture.specs.Plan.{CodePlan, HasSizes, PlacesRise, PlacesLie}
 use Rattle.tetra_puncture.specs.Spread.{spread_values}
 use Rattle.tetra_puncture.specs.ToGo.{potentials_of, potential_row}
@@ -27,7 +25,7 @@ use Rattle.tetra_rm.specs.declared.table.Rows.{Rows}
 use Rattle.tetra_session.specs.Built.{IsBuiltName}
 use Rattle.tetra_session.specs.Fronts.{IsFrontField, IsFront, IsBounded}
 use Rattle.tetra_session.specs.Heard.{letter_heard, place_values, values_of, block_heard, field_heard, fields_heard, slot_front, slot_reading}
-use Rattle.tetra_session.specs.Readers.{reader, channel_of, field_reading, read_field, read_front}
+use Rattle.tetra_session.specs.Readers.{CodedPart, reader, coded_part, field_reading, read_field, read_front}
 use Rattle.tetra_session.specs.Spots.{places_of, FitsSpot, ArePlaces}
 use Rattle.tetra_session.specs.declared.front.FrontField.{FrontField}
 use Rattle.tetra_session.specs.declared.front.Front.{Front}
@@ -65,18 +63,17 @@ certificate plan values sizes rise lie sent = record {
 
 -- the defined reading of a field is right
 module _ (rows : List ℕ) (field : FrontField) where
-  plain_certified : IsPlain rows field.name field.soft → AreCertified (channel_of (reader field.name)) field.soft (field_reading rows field.name field.soft).potentials
-  plain_certified plain = subst (λ (p : Option (List (List ℕ))). AreCertified (channel_of (reader field.name)) field.soft p) (sym plain.alone) plain.certified
+  plain_certified : IsPlain rows field.name field.soft → AreCertified (coded_part (reader field.name)) field.soft (field_reading rows field.name field.soft).potentials
+  plain_certified plain = subst (λ (p : Option (List (List ℕ))). AreCertified (coded_part (reader field.name)) field.soft p) (sym plain.alone) plain.certified
 
-  coded_certified : IsCoded rows field.name field.soft → AreCertified (channel_of (reader field.name)) field.soft (field_reading rows field.name field.soft).potentials
-  unfolding coded_reading
+  coded_certified : IsCoded rows field.name field.soft → AreCertified (coded_part (reader field.name)) field.soft (field_reading rows field.name field.soft).potentials
   coded_certified coded =
-      let costs : List (List ℕ) = potentials_of coded.channel.plan coded.soft in
-      let there : (field_reading rows field.name field.soft).potentials ≡ Some costs = ap (λ (r : Reading). r.potentials) coded.reading in
-      subst (λ (p : Option (List (List ℕ))). AreCertified (channel_of (reader field.name)) field.soft p) (sym there)
-      (subst (λ (v : Option (List ℤ)). AreCertified (channel_of (reader field.name)) v (Some costs)) (sym coded.there)
-      (subst (λ (c : Option Channel). AreCertified c (Some coded.soft) (Some costs)) (sym coded.of_channel)
-      (certificate coded.channel.plan coded.soft coded.laws.sizes coded.laws.rise coded.laws.lie coded.sent)))
+      let values : List ℤ = drop coded.part.before coded.soft in
+      let costs : List (List ℕ) = potentials_of coded.part.plan values in
+      subst (λ (p : Option (List (List ℕ))). AreCertified (coded_part (reader field.name)) field.soft p) (sym coded.has.potentials)
+      (subst (λ (v : Option (List ℤ)). AreCertified (coded_part (reader field.name)) v (Some costs)) (sym coded.there)
+      (subst (λ (p : Option CodedPart). AreCertified p (Some coded.soft) (Some costs)) (sym coded.of_part)
+      (certificate coded.part.plan values coded.has.sizes coded.has.rise coded.has.lie coded.has.sent)))
 
   own_right : IsFrontField field → IsAudited field → IsRight rows field (read_field rows field)
   unfolding read_field

@@ -1,36 +1,29 @@
 -- A field's tests all pass exactly where its bytes spell a right reading.
-use Rattle.std.proofs.Common.{◌≡◌, ◌↔◌, inl, inr, ℕ, ◌+◌, ◌-◌, ◌*◌, ◌/◌, ◌%◌, ◌<◌, ◌≤◌, Bool, true, false, cond, List, [], ◌∷◌, ◌++◌, length, drop, get_or, ℤ, Option, Some, None, arith, refl, sym, ap, subst, ◌∙◌, length-append}
+use Rattle.std.proofs.Common.{◌≡◌, ◌↔◌, inl, inr, ℕ, ◌+◌, ◌*◌, ◌/◌, ◌%◌, ◌<◌, Bool, true, false, cond, List, [], ◌∷◌, ◌++◌, length, drop, get_or, ℤ, Option, Some, None, arith, refl, sym, ap, subst, ◌∙◌, length-append}
 use Rattle.std.proofs.lemmas.List.{drop_all}
 use Rattle.std.proofs.lemmas.Slice.Eq.{bytes_eq-Decides}
 use Rattle.std.specs.Str.{bytes_eq}
-use Rattle.tetra_bits.specs.Numbered.{numbered, length-numbered}
-use Rattle.tetra_bits.specs.Packed.{bytes_for, packed, unpacked_bit}
+use Rattle.tetra_bits.specs.Packed.{bytes_for, packed}
 use Rattle.tetra_bits.specs.Readings.{mark_byte}
 use Rattle.tetra_bits.specs.declared.reading.Mark.{Mark}
 use Rattle.tetra_bits.specs.declared.reading.Reading.{Reading}
-use Rattle.tetra_channels.specs.Channels.{Channel}
-use Rattle.tetra_channels.specs.Fields.{coded_reading}
-use Rattle.tetra_parity.specs.Marks.{mark_of}
-use Rattle.tetra_puncture.specs.Best.{best_of, message_metric}
-use Rattle.tetra_puncture.specs.Certified.{Fits}
-use Rattle.tetra_puncture.specs.lemmas.Shapes.{length-best_of}
 use Rattle.tetra_records.specs.Readings.{table_bytes, certificate_bytes, field_bytes}
 use Rattle.tetra_session.specs.Fronts.{IsFrontField}
-use Rattle.tetra_session.specs.Readers.{reader, channel_of, field_reading}
+use Rattle.tetra_session.specs.Readers.{CodedPart, reader, coded_part, field_reading}
 use Rattle.tetra_session.specs.declared.front.FrontField.{FrontField}
 use Rattle.tetra_settings.specs.Readings.{message_bits, certificate_rows}
 use Rattle.tetra_settings.specs.declared.readings.Field.{Field}
 use Rattle.tetra_settings.specs.declared.types.Form.TheVariants.{Audit}
 use Rattle.tetra_audit.specs.Agreement.{IsCertificate, AreCertified, IsRight}
-use Rattle.tetra_audit.specs.Claims.{claimed_bits, mark_part, metric_part, bits_part}
+use Rattle.tetra_audit.specs.Claims.{mark_part, metric_part, bits_part}
 use Rattle.tetra_audit.specs.Fields.{IsAudited, claimed_rows, field_length}
-use Rattle.tetra_audit.specs.Parts.{plain_why, coded_why}
-use Rattle.tetra_audit.specs.Verdicts.{field_tests, coded_tests, field_why, pad_fault, bits_fault, metric_fault, mark_fault, first_of}
+use Rattle.tetra_audit.specs.Parts.{plain_why, part_why}
+use Rattle.tetra_audit.specs.Verdicts.{field_why, pad_fault, bits_fault, metric_fault, mark_fault}
 use Rattle.tetra_audit.specs.declared.verdict.FieldWhy.{FieldWhy}
 use Rattle.tetra_audit.specs.declared.verdict.FieldWhy.TheVariants.{Bits, Metric, Mark as MarkFails}
 use Rattle.tetra_audit.proofs.Agreeing.{spelled, defined, Passes, none_fails, all_pass, defined_passes, is_certificate, is_defined, table, first_none, same_number, bits_spelled, metric_spelled, mark_spelled, pad_spelled, length-packed}
-use Rattle.tetra_audit.proofs.Codes.{rows_of}
-use Rattle.tetra_audit.proofs.FieldCases.{IsPlain, IsCoded, plain_or_coded, why_plain}
+use Rattle.tetra_audit.proofs.Codes.{HasPart}
+use Rattle.tetra_audit.proofs.FieldCases.{IsPlain, IsCoded, plain_or_coded, why_part, why_plain}
 use Rattle.tetra_audit.proofs.Spelled.{parts_together, number_split, length-table_bytes}
 use Rattle.tetra_audit.proofs.Testing.{is_same}
 
@@ -50,8 +43,8 @@ module _ (reading : Reading) where
       let same : bytes_eq (bits_part (length bits) bytes) (packed bits) ≡ true = (bytes_eq-Decides (bits_part (length bits) bytes) (packed bits)).1 (bits_spelled mark metric bits [] (length bits) refl) in
       rw (pad_spelled mark metric bits [] (length bits) refl, same, is_same _ _ (metric_spelled mark metric bits [] (length bits) refl), is_same _ _ (mark_spelled mark metric bits [] (length bits) refl)) refl
 
-  same_bits : (xs ys : List ℕ) (why : FieldWhy) → cond (bytes_eq xs ys) None (Some why) ≡ None → xs ≡ ys
-  same_bits xs ys why e = at (bytes_eq xs ys) refl e
+  same_bytes : (xs ys : List ℕ) (why : FieldWhy) → cond (bytes_eq xs ys) None (Some why) ≡ None → xs ≡ ys
+  same_bytes xs ys why e = at (bytes_eq xs ys) refl e
     where
       at : (b : Bool) → bytes_eq xs ys ≡ b → cond b None (Some why) ≡ None → xs ≡ ys
       at true is h = (bytes_eq-Decides xs ys).0 is
@@ -67,7 +60,7 @@ module _ (reading : Reading) where
       let two = first_none (bits_fault bits bytes) (metric_fault metric bytes ∷ mark_fault mark bytes ∷ []) one.1 in
       let three = first_none (metric_fault metric bytes) (mark_fault mark bytes ∷ []) two.1 in
       let four = first_none (mark_fault mark bytes) [] three.1 in
-      let part : bits_part (length bits) bytes ≡ packed bits = same_bits (bits_part (length bits) bytes) (packed bits) Bits two.0 in
+      let part : bits_part (length bits) bytes ≡ packed bits = same_bytes (bits_part (length bits) bytes) (packed bits) Bits two.0 in
       let number : metric_part bytes ≡ metric = same_number (metric_part bytes) metric Metric three.0 in
       let first : mark_part bytes ≡ mark_byte mark = same_number (mark_part bytes) (mark_byte mark) MarkFails four.0 in
       let behind : drop (3 + bytes_for (length bits)) bytes ≡ [] = drop_all (3 + bytes_for (length bits)) bytes (omega arith) in
@@ -90,11 +83,11 @@ length-spelled : (mark : Mark) (metric : ℕ) (bits : List Bool) (table : List �
 unfolding spelled
 length-spelled mark metric bits table = omega (arith, length-append (packed bits) table, length-packed bits)
 
--- a table of a field of a channel
-table_of : (channel : Channel) (soft : List ℤ) (potentials : Option (List (List ℕ))) → AreCertified (Some channel) (Some soft) potentials
-    → (table : List (List ℕ)) × (potentials ≡ Some table) × IsCertificate channel.plan soft table
-table_of channel soft None is = absurd is
-table_of channel soft (Some table) is = (table, refl, is)
+-- a table of a field of which a trellis reads a part
+table_of : (part : CodedPart) (soft : List ℤ) (potentials : Option (List (List ℕ))) → AreCertified (Some part) (Some soft) potentials
+    → (table : List (List ℕ)) × (potentials ≡ Some table) × IsCertificate part.plan (drop part.before soft) table
+table_of part soft None is = absurd is
+table_of part soft (Some rows) is = (rows, refl, is)
 
 -- a right reading whose bytes these are
 pub record Reads (rows : List ℕ) (field : FrontField) (bytes : List ℕ) : Type 0 where
@@ -114,32 +107,27 @@ module _ (rows : List ℕ) (field : FrontField) (claimed : Field) (right : IsRig
   unfolding spelled_plain
   right_plain plain = right_bytes None (plain.only claimed.reading.potentials right.potentials)
 
-  right_table : (coded : IsCoded rows field.name field.soft) → (table : List (List ℕ)) × (claimed.reading.potentials ≡ Some table) × IsCertificate coded.channel.plan coded.soft table
+  right_table : (coded : IsCoded rows field.name field.soft) → (table : List (List ℕ)) × (claimed.reading.potentials ≡ Some table) × IsCertificate coded.part.plan (drop coded.part.before coded.soft) table
   right_table coded =
-      table_of coded.channel coded.soft claimed.reading.potentials
-      (subst (λ (c : Option Channel). AreCertified c (Some coded.soft) claimed.reading.potentials) coded.of_channel
-      (subst (λ (v : Option (List ℤ)). AreCertified (channel_of (reader field.name)) v claimed.reading.potentials) coded.there right.potentials))
+      table_of coded.part coded.soft claimed.reading.potentials
+      (subst (λ (p : Option CodedPart). AreCertified p (Some coded.soft) claimed.reading.potentials) coded.of_part
+      (subst (λ (v : Option (List ℤ)). AreCertified (coded_part (reader field.name)) v claimed.reading.potentials) coded.there right.potentials))
 
-  right_coded : (coded : IsCoded rows field.name field.soft) (table : List (List ℕ)) → claimed.reading.potentials ≡ Some table → field_bytes Audit claimed ≡ defined coded.channel coded.soft table
-  unfolding defined coded_reading
-  right_coded coded table e =
-      right_bytes (Some table) e
-      ∙ ap (λ (r : Reading). spelled r.mark r.metric r.bits (table_bytes table)) coded.reading
+  right_coded : (table : List (List ℕ)) → claimed.reading.potentials ≡ Some table → field_bytes Audit claimed ≡ defined (field_reading rows field.name field.soft) table
+  unfolding defined
+  right_coded table e = right_bytes (Some table) e
 
   -- how many they are
   coded_length : (coded : IsCoded rows field.name field.soft) → length (field_bytes Audit claimed) ≡ field_length field
   unfolding defined field_length
   coded_length coded =
-      let channel : Channel = coded.channel in
-      let soft : List ℤ = coded.soft in
+      let reading : Reading = field_reading rows field.name field.soft in
       let table = right_table coded in
-      let message : List Bool = best_of channel.plan soft in
-      let bytes : length (field_bytes Audit claimed) ≡ 3 + bytes_for (length message) + length (table_bytes table.0) =
-      ap length (right_coded coded table.0 table.1) ∙ length-spelled (mark_of channel.parity message) (message_metric channel.plan soft message) message (table_bytes table.0) in
-      let size : length message ≡ message_bits field.name = omega (arith, length-best_of channel.plan soft, coded.laws.bits) in
-      let bits : bytes_for (length message) ≡ bytes_for (message_bits field.name) = ap bytes_for size in
+      let bytes : length (field_bytes Audit claimed) ≡ 3 + bytes_for (length reading.bits) + length (table_bytes table.0) =
+      ap length (right_coded table.0 table.1) ∙ length-spelled reading.mark reading.metric reading.bits (table_bytes table.0) in
+      let bits : bytes_for (length reading.bits) ≡ bytes_for (message_bits field.name) = ap bytes_for coded.has.bits in
       let rows_long : length (table_bytes table.0) ≡ 32 * length table.0 = length-table_bytes table.0 table.2.states in
-      let many : length table.0 ≡ certificate_rows field.name = table.2.rows ∙ sym (rows_of field.name channel coded.laws) in
+      let many : length table.0 ≡ certificate_rows field.name = table.2.rows ∙ sym coded.many in
       let claimed_many : claimed_rows field.name field.soft ≡ certificate_rows field.name = ap (claimed_rows field.name) coded.there in
       omega (arith, bytes, bits, rows_long, many, claimed_many)
 
@@ -160,73 +148,61 @@ with_potentials rows field potentials =
     let reading : Reading = field_reading rows field.name field.soft in
     record { name = field.name; reading = record { mark = reading.mark; metric = reading.metric; bits = reading.bits; potentials = potentials } }
 
-is_right : (rows : List ℕ) (field : FrontField) (potentials : Option (List (List ℕ))) → AreCertified (channel_of (reader field.name)) field.soft potentials → IsRight rows field (with_potentials rows field potentials)
+is_right : (rows : List ℕ) (field : FrontField) (potentials : Option (List (List ℕ))) → AreCertified (coded_part (reader field.name)) field.soft potentials → IsRight rows field (with_potentials rows field potentials)
 unfolding with_potentials
 is_right rows field potentials is = record { name = refl; mark = refl; metric = refl; bits = refl; potentials = is }
 
 module _ (rows : List ℕ) (field : FrontField) (bytes : List ℕ) (small : (k : ℕ) → get_or bytes k 0 < 256) (size : length bytes ≡ field_length field) where
-  -- a field of a channel
+  -- a field of which a trellis reads a part
   module _ (coded : IsCoded rows field.name field.soft) where
-    unfoldable channel : Channel
-    channel = coded.channel
+    unfoldable reading : Reading
+    reading = field_reading rows field.name field.soft
 
-    unfoldable soft : List ℤ
-    soft = coded.soft
-
-    tests_coded : coded_why channel soft bytes ≡ field_why rows field bytes
-    unfolding channel soft coded_why field_why
-    tests_coded =
-        ap (λ (r : Reading). first_of (coded_tests coded.channel.plan coded.soft r bytes)) (sym coded.reading)
-        ∙ ap (λ (v : Option (List ℤ)). first_of (field_tests (Some coded.channel) v (field_reading rows field.name field.soft) bytes)) (sym coded.there)
-        ∙ ap (λ (c : Option Channel). first_of (field_tests c field.soft (field_reading rows field.name field.soft) bytes)) (sym coded.of_channel)
-
-    long : length bytes ≡ 3 + bytes_for (channel.plan.steps - 4) + 32 * (channel.plan.steps + 1)
-    unfolding channel field_length
+    long : length bytes ≡ 3 + bytes_for (length reading.bits) + 32 * (coded.part.plan.steps + 1)
+    unfolding reading field_length
     long =
-        let bits : message_bits field.name ≡ coded.channel.plan.steps - 4 = omega (arith, coded.laws.bits) in
-        let claimed_many : claimed_rows field.name field.soft ≡ coded.channel.plan.steps + 1 = ap (claimed_rows field.name) coded.there ∙ rows_of field.name coded.channel coded.laws in
-        size ∙ (ap (λ n. 3 + bytes_for n + 32 * claimed_rows field.name field.soft) bits ∙ ap (λ n. 3 + bytes_for (coded.channel.plan.steps - 4) + 32 * n) claimed_many)
+        let bits : bytes_for (length (field_reading rows field.name field.soft).bits) ≡ bytes_for (message_bits field.name) = ap bytes_for coded.has.bits in
+        let claimed_many : claimed_rows field.name field.soft ≡ coded.part.plan.steps + 1 = ap (claimed_rows field.name) coded.there ∙ coded.many in
+        omega (arith, size, bits, claimed_many)
 
-    fits : Fits channel.plan soft (claimed_bits (bits_part (channel.plan.steps - 4) bytes) (channel.plan.steps - 4))
-    unfolding claimed_bits channel soft
-    fits =
-        let steps : 6 ≤ coded.channel.plan.steps = coded.laws.sizes.few_steps.0 in
-        let many : length (numbered (unpacked_bit (bits_part (coded.channel.plan.steps - 4) bytes)) (coded.channel.plan.steps - 4)) ≡ coded.channel.plan.steps - 4 = length-numbered (unpacked_bit (bits_part (coded.channel.plan.steps - 4) bytes)) (coded.channel.plan.steps - 4) in
-        record { sizes = coded.laws.sizes; rise = coded.laws.rise; lie = coded.laws.lie; message = omega arith; values = coded.sent }
+    has : HasPart coded.part (message_bits field.name) coded.soft reading
+    unfolding reading
+    has = coded.has
 
-    certified_there : (claim : List (List ℕ)) → IsCertificate channel.plan soft claim → AreCertified (channel_of (reader field.name)) field.soft (Some claim)
-    unfolding channel soft
+    tests_coded : part_why coded.part coded.soft reading bytes ≡ field_why rows field bytes
+    unfolding reading
+    tests_coded = why_part rows field bytes coded
+
+    certified_there : (claim : List (List ℕ)) → IsCertificate coded.part.plan (drop coded.part.before coded.soft) claim → AreCertified (coded_part (reader field.name)) field.soft (Some claim)
     certified_there claim is =
-        subst (λ (v : Option (List ℤ)). AreCertified (channel_of (reader field.name)) v (Some claim)) (sym coded.there)
-        (subst (λ (c : Option Channel). AreCertified c (Some coded.soft) (Some claim)) (sym coded.of_channel) is)
+        subst (λ (v : Option (List ℤ)). AreCertified (coded_part (reader field.name)) v (Some claim)) (sym coded.there)
+        (subst (λ (p : Option CodedPart). AreCertified p (Some coded.soft) (Some claim)) (sym coded.of_part) is)
 
-    bytes_coded : (claimed : Field) → IsRight rows field claimed → (claim : List (List ℕ)) → claimed.reading.potentials ≡ Some claim → field_bytes Audit claimed ≡ defined channel soft claim
-    unfolding channel soft
-    bytes_coded claimed right claim e = right_coded rows field claimed right coded claim e
+    bytes_coded : (claimed : Field) → IsRight rows field claimed → (claim : List (List ℕ)) → claimed.reading.potentials ≡ Some claim → field_bytes Audit claimed ≡ defined reading claim
+    unfolding reading
+    bytes_coded claimed right claim e = right_coded rows field claimed right claim e
 
     coded_reads : field_why rows field bytes ≡ None → Reads rows field bytes
     unfolding with_potentials
     coded_reads none =
-        let passes : Passes channel soft bytes = all_pass channel soft bytes (tests_coded ∙ none) in
-        let claim : List (List ℕ) = table channel soft bytes fits small long passes in
-        let right : IsRight rows field (with_potentials rows field (Some claim)) = is_right rows field (Some claim) (certified_there claim (is_certificate channel soft bytes fits small long passes)) in
+        let passes : Passes coded.part coded.soft reading bytes = all_pass coded.part coded.soft reading bytes (tests_coded ∙ none) in
+        let claim : List (List ℕ) = table coded.part (message_bits field.name) coded.soft reading has bytes small long passes in
+        let right : IsRight rows field (with_potentials rows field (Some claim)) =
+        is_right rows field (Some claim) (certified_there claim (is_certificate coded.part (message_bits field.name) coded.soft reading has bytes small long passes)) in
         record {
           claimed = with_potentials rows field (Some claim);
           right = right;
-          spells = sym (is_defined channel soft bytes fits small long passes) ∙ sym (bytes_coded (with_potentials rows field (Some claim)) right claim refl);
+          spells = sym (is_defined coded.part (message_bits field.name) coded.soft reading has bytes small long passes) ∙ sym (bytes_coded (with_potentials rows field (Some claim)) right claim refl);
         }
-
-    certificate_of : (claimed : Field) → IsRight rows field claimed → (claim : List (List ℕ)) × (claimed.reading.potentials ≡ Some claim) × IsCertificate channel.plan soft claim
-    unfolding channel soft
-    certificate_of claimed right = right_table rows field claimed right coded
 
     reads_coded : Reads rows field bytes → field_why rows field bytes ≡ None
     reads_coded reads =
-        let claim = certificate_of reads.claimed reads.right in
-        let same : bytes ≡ defined channel soft claim.0 = reads.spells ∙ bytes_coded reads.claimed reads.right claim.0 claim.1 in
-        let passes : Passes channel soft (defined channel soft claim.0) =
-        defined_passes channel soft claim.0 claim.2 (subst (λ (bs : List ℕ). (k : ℕ) → get_or bs k 0 < 256) same small) (let n : length (defined channel soft claim.0) ≡ length bytes = ap length (sym same) in omega (arith, long)) in
-        sym tests_coded ∙ (ap (coded_why channel soft) same ∙ none_fails channel soft (defined channel soft claim.0) passes)
+        let claim = right_table rows field reads.claimed reads.right coded in
+        let same : bytes ≡ defined reading claim.0 = reads.spells ∙ bytes_coded reads.claimed reads.right claim.0 claim.1 in
+        let passes : Passes coded.part coded.soft reading (defined reading claim.0) =
+        defined_passes coded.part (message_bits field.name) coded.soft reading has claim.0 claim.2 (subst (λ (bs : List ℕ). (k : ℕ) → get_or bs k 0 < 256) same small)
+        (let n : length (defined reading claim.0) ≡ length bytes = ap length (sym same) in omega (arith, long)) in
+        sym tests_coded ∙ (ap (part_why coded.part coded.soft reading) same ∙ none_fails coded.part coded.soft reading (defined reading claim.0) passes)
 
   -- a field without a trellis
   module _ (plain : IsPlain rows field.name field.soft) where

@@ -1,10 +1,13 @@
 -- The tests of a field.
 use Prim.Native.Nat.{zero, suc}
-use Rattle.std.proofs.Common.{◌≡◌, ◌≢◌, inl, inr, ℕ, ◌+◌, ◌-◌, ◌*◌, ◌<◌, ◌≤◌, Bool, true, false, not, eqb, ◌||◌, List, length, take, drop, get_or, ℤ, Some, None, arith, refl, sym, ap, subst, ◌∙◌, length-drop}
+use Rattle.std.proofs.Common.{◌≡◌, ◌≢◌, ◌↔◌, inl, inr, ℕ, ◌+◌, ◌-◌, ◌*◌, ◌<◌, ◌≤◌, Bool, true, false, not, eqb, ◌||◌, List, [], ◌∷◌, length, take, drop, get_or, ℤ, Some, None, arith, refl, sym, ap, subst, ◌∙◌, length-drop}
 use Rattle.std.proofs.lemmas.Bool.{cases_lt}
 use Rattle.std.proofs.lemmas.Bool.Decides.{nat_tests}
 use Rattle.std.proofs.lemmas.List.{get_or-take, get_or-drop, get_or_past, length-take, length-take-le, take_all}
 use Rattle.std.proofs.lemmas.Slice.Eq.{bytes_eq-Decides}
+use Rattle.std.proofs.Math.Bool.{beq}
+use Rattle.std.specs.Cmp.{booleans_Decides}
+use Rattle.std.specs.Cmp.Lexicographic.{pointwise, pointwise_decides}
 use Rattle.std.specs.List.{list_any, range_with_len}
 use Rattle.std.specs.Str.{bytes_eq}
 use Rattle.tetra_bits.specs.Packed.{bytes_for, packed, bit_in, HasPad, unpacked_bit}
@@ -14,15 +17,13 @@ use Rattle.tetra_bits.specs.declared.reading.Mark.{Mark}
 use Rattle.tetra_bits.specs.declared.reading.Reading.{Reading}
 use Rattle.tetra_cert.specs.Verdicts.{verdict_of}
 use Rattle.tetra_cert.specs.declared.verdict.Verdict.TheVariants.{Accepted, Refused}
-use Rattle.tetra_channels.specs.Channels.{Channel}
-use Rattle.tetra_channels.specs.Fields.{coded_reading}
-use Rattle.tetra_parity.specs.Marks.{mark_of}
-use Rattle.tetra_puncture.specs.Best.{best_of, message_metric}
+use Rattle.tetra_parity.specs.Parity.{same_bits}
 use Rattle.tetra_puncture.specs.declared.rule.Rule.{Rule}
+use Rattle.tetra_session.specs.Readers.{CodedPart}
 use Rattle.tetra_bits.specs.Readings.{mark_byte}
 use Rattle.tetra_audit.specs.Claims.{claimed_bits, claimed_table, has_pad, mark_part, metric_part, bits_part, table_part}
-use Rattle.tetra_audit.specs.Parts.{head_why, plain_why, coded_why}
-use Rattle.tetra_audit.specs.Verdicts.{pad_fault, bits_fault, cert_fault, metric_fault, mark_fault}
+use Rattle.tetra_audit.specs.Parts.{head_why, plain_why, part_why}
+use Rattle.tetra_audit.specs.Verdicts.{pad_fault, bits_fault, uncoded_fault, cert_fault, metric_fault, mark_fault}
 use Rattle.tetra_audit.specs.declared.verdict.FieldWhy.TheVariants.{Pad, Bits, Cert, Metric, Mark as MarkFails}
 
 is_not : (x y : ℕ) → x ≢ y → eqb x y ≡ false
@@ -40,6 +41,46 @@ not_same xs ys ne = at (bytes_eq xs ys) refl
 
 all_same : (xs ys : List ℕ) → xs ≡ ys → bytes_eq xs ys ≡ true
 all_same xs ys e = (bytes_eq-Decides xs ys).1 e
+
+-- the test of two lists of bits
+pub same_exactly : (xs ys : List Bool) → (same_bits xs ys ≡ true) ↔ (xs ≡ ys)
+unfolding same_bits
+same_exactly xs ys = (there xs ys, λ e. ap (same_bits xs) (sym e) ∙ back xs)
+  where
+    there : (xs ys : List Bool) → same_bits xs ys ≡ true → xs ≡ ys
+    there [] [] h = refl
+    there [] (y ∷ ys) h = cc
+    there (x ∷ xs) [] h = cc
+    there (true ∷ xs) (true ∷ ys) h = ap (λ l. true ∷ l) (there xs ys h)
+    there (true ∷ xs) (false ∷ ys) h = cc
+    there (false ∷ xs) (true ∷ ys) h = cc
+    there (false ∷ xs) (false ∷ ys) h = ap (λ l. false ∷ l) (there xs ys h)
+
+    back : (xs : List Bool) → same_bits xs xs ≡ true
+    back [] = refl
+    back (true ∷ xs) = back xs
+    back (false ∷ xs) = back xs
+
+bits_differ : (xs ys : List Bool) → xs ≢ ys → same_bits xs ys ≡ false
+bits_differ xs ys ne = at (same_bits xs ys) refl
+  where
+    at : (b : Bool) → same_bits xs ys ≡ b → same_bits xs ys ≡ false
+    at true e = absurd (ne ((same_exactly xs ys).0 e))
+    at false e = e
+
+-- what `!=` of two lists of bits says
+pub bits_unlike : (xs ys : List Bool) → true ≡ not (pointwise beq xs ys) → xs ≢ ys
+bits_unlike xs ys e f =
+    let is : pointwise beq xs ys ≡ true = (pointwise_decides booleans_Decides xs ys).1 f in
+    let clash : true ≡ false = e ∙ ap not is in
+    cc
+
+pub bits_alike : (xs ys : List Bool) → false ≡ not (pointwise beq xs ys) → xs ≡ ys
+bits_alike xs ys e = at (pointwise beq xs ys) refl
+  where
+    at : (b : Bool) → pointwise beq xs ys ≡ b → xs ≡ ys
+    at true is = (pointwise_decides booleans_Decides xs ys).0 is
+    at false is = let clash : false ≡ true = e ∙ ap not is in absurd (cc)
 
 -- what `!=` of two lists of bytes says
 pub differs : (xs ys zs : List ℕ) → xs ≡ zs → true ≡ not (bytes_eq xs ys) → ys ≢ zs
@@ -122,7 +163,7 @@ claimed_is part len message small size long e =
     packed_apart message (numbered (unpacked_bit part) len) (long ∙ sym (length-numbered (unpacked_bit part) len))
     (e ∙ sym (packed_taken part len small size (pads_clean part len none)))
 
--- the tests of a field whose bits come by no trellis, where its bits stand in the n bytes behind the third
+-- the tests of a field, where its bits stand in the n bytes behind the third
 module _ (reading : Reading) (bytes : List ℕ) (n len : ℕ) (en : n ≡ bytes_for (length reading.bits)) (el : len ≡ length reading.bits) where
   part_is : take n (drop 3 bytes) ≡ bits_part (length reading.bits) bytes
   part_is = ap (λ k. take k (drop 3 bytes)) en
@@ -133,6 +174,7 @@ module _ (reading : Reading) (bytes : List ℕ) (n len : ℕ) (en : n ≡ bytes_
   pad_here : HasPad (bits_part (length reading.bits) bytes) (length reading.bits) → HasPad (take n (drop 3 bytes)) len
   pad_here h = subst (λ (k : ℕ). HasPad (take n (drop 3 bytes)) k) (sym el) (subst (λ (part : List ℕ). HasPad part (length reading.bits)) (sym part_is) h)
 
+  -- whose bits come by no trellis
   pub plain_pad : HasPad (take n (drop 3 bytes)) len → plain_why reading bytes ≡ Some Pad
   unfolding plain_why pad_fault
   plain_pad h = let e : has_pad (bits_part (length reading.bits) bytes) (length reading.bits) ≡ true = pad_found (bits_part (length reading.bits) bytes) (length reading.bits) (pad_there h) in rw e refl
@@ -151,53 +193,52 @@ module _ (reading : Reading) (bytes : List ℕ) (n len : ℕ) (en : n ≡ bytes_
       let f : bytes_eq (bits_part (length reading.bits) bytes) (packed reading.bits) ≡ true = all_same (bits_part (length reading.bits) bytes) (packed reading.bits) (sym part_is ∙ same) in
       rw (e, f) refl
 
--- the tests of a field of a code, where its table begins behind so many bytes
-module _ (channel : Channel) (soft : List ℤ) (bytes : List ℕ) (behind len : ℕ) (en : behind ≡ 3 + bytes_for (channel.plan.steps - 4)) (el : len ≡ channel.plan.steps - 4) where
-  coded_part : take (behind - 3) (drop 3 bytes) ≡ bits_part (channel.plan.steps - 4) bytes
-  coded_part = let n : behind - 3 ≡ bytes_for (channel.plan.steps - 4) = omega arith in ap (λ k. take k (drop 3 bytes)) n
+  -- of which a trellis reads a part
+  module _ (part : CodedPart) (soft : List ℤ) where
+    pub part_pad : HasPad (take n (drop 3 bytes)) len → part_why part soft reading bytes ≡ Some Pad
+    unfolding part_why pad_fault
+    part_pad h = let e : has_pad (bits_part (length reading.bits) bytes) (length reading.bits) ≡ true = pad_found (bits_part (length reading.bits) bytes) (length reading.bits) (pad_there h) in rw e refl
 
-  coded_there : HasPad (take (behind - 3) (drop 3 bytes)) len → HasPad (bits_part (channel.plan.steps - 4) bytes) (channel.plan.steps - 4)
-  coded_there h = subst (λ (k : ℕ). HasPad (bits_part (channel.plan.steps - 4) bytes) k) el (subst (λ (part : List ℕ). HasPad part len) coded_part h)
+    -- what was read of its bits
+    module _ (bits : List Bool) (small : (q : ℕ) → get_or bytes q 0 < 256) (long : 3 + n ≤ length bytes) (size : length bits ≡ len) (taken : packed bits ≡ take n (drop 3 bytes)) where
+      no_pad : has_pad (bits_part (length reading.bits) bytes) (length reading.bits) ≡ false
+      no_pad = no_pad_found (bits_part (length reading.bits) bytes) (length reading.bits) (λ h. packed_pads bits (take n (drop 3 bytes)) len size taken (pad_here h))
 
-  coded_here : HasPad (bits_part (channel.plan.steps - 4) bytes) (channel.plan.steps - 4) → HasPad (take (behind - 3) (drop 3 bytes)) len
-  coded_here h = subst (λ (k : ℕ). HasPad (take (behind - 3) (drop 3 bytes)) k) (sym el) (subst (λ (part : List ℕ). HasPad part (channel.plan.steps - 4)) (sym coded_part) h)
+      bits_are : bits ≡ claimed_bits (bits_part (length reading.bits) bytes) (length reading.bits)
+      bits_are =
+          claimed_is (take n (drop 3 bytes)) len bits (small_part bytes n small) (length-part bytes n long ∙ (en ∙ ap bytes_for (sym el))) size taken
+          ∙ (ap (λ p. claimed_bits p len) part_is ∙ ap (claimed_bits (bits_part (length reading.bits) bytes)) el)
 
-  pub coded_pad : HasPad (take (behind - 3) (drop 3 bytes)) len → coded_why channel soft bytes ≡ Some Pad
-  unfolding coded_why pad_fault
-  coded_pad h = let e : has_pad (bits_part (channel.plan.steps - 4) bytes) (channel.plan.steps - 4) ≡ true = pad_found (bits_part (channel.plan.steps - 4) bytes) (channel.plan.steps - 4) (coded_there h) in rw e refl
+      pub part_bits : part.uncoded bits ≢ part.uncoded reading.bits → part_why part soft reading bytes ≡ Some Bits
+      unfolding part_why pad_fault uncoded_fault
+      part_bits differ =
+          let claimed : List Bool = claimed_bits (bits_part (length reading.bits) bytes) (length reading.bits) in
+          let f : same_bits (part.uncoded claimed) (part.uncoded reading.bits) ≡ false = bits_differ (part.uncoded claimed) (part.uncoded reading.bits) (λ g. differ (ap part.uncoded bits_are ∙ g)) in
+          rw (no_pad, f) refl
 
-  -- what was read of it
-  module _ (message : List Bool) (table : List (List ℕ)) (rows : ℕ) (small : (q : ℕ) → get_or bytes q 0 < 256) (long : behind ≤ length bytes)
-      (size : length message ≡ len) (taken : packed message ≡ take (behind - 3) (drop 3 bytes)) (er : rows ≡ channel.plan.steps + 1)
-      (read : table ≡ claimed_table (take (length bytes - behind) (drop behind bytes)) rows) where
-    no_pad : HasPad (bits_part (channel.plan.steps - 4) bytes) (channel.plan.steps - 4) → ⊥
-    no_pad h = packed_pads message (take (behind - 3) (drop 3 bytes)) len size taken (coded_here h)
+      -- and of its table, which begins behind so many bytes
+      module _ (same : part.uncoded bits ≡ part.uncoded reading.bits) (behind : ℕ) (eb : behind ≡ 3 + n) (table : List (List ℕ)) (rows : ℕ) (er : rows ≡ part.plan.steps + 1)
+          (read : table ≡ claimed_table (take (length bytes - behind) (drop behind bytes)) rows) where
+        bits_same : same_bits (part.uncoded (claimed_bits (bits_part (length reading.bits) bytes) (length reading.bits))) (part.uncoded reading.bits) ≡ true
+        bits_same = (same_exactly _ _).1 (ap part.uncoded (sym bits_are) ∙ same)
 
-    message_is : message ≡ claimed_bits (bits_part (channel.plan.steps - 4) bytes) (channel.plan.steps - 4)
-    message_is =
-        let n : behind - 3 ≡ bytes_for (channel.plan.steps - 4) = omega arith in
-        claimed_is (take (behind - 3) (drop 3 bytes)) len message (small_part bytes (behind - 3) small) (length-part bytes (behind - 3) (omega arith) ∙ (n ∙ ap bytes_for (sym el))) size taken
-        ∙ (ap (λ part. claimed_bits part len) coded_part ∙ ap (claimed_bits (bits_part (channel.plan.steps - 4) bytes)) el)
+        table_is : table ≡ claimed_table (table_part (length reading.bits) bytes) (part.plan.steps + 1)
+        table_is =
+            let whole : take (length bytes - behind) (drop behind bytes) ≡ drop behind bytes = take_all (length bytes - behind) (drop behind bytes) (omega (arith, length-drop behind bytes)) in
+            let from : behind ≡ 3 + bytes_for (length reading.bits) = eb ∙ ap (λ k. 3 + k) en in
+            read ∙ (ap (λ p. claimed_table p rows) whole ∙ (ap (λ k. claimed_table (drop k bytes) rows) from ∙ ap (claimed_table (table_part (length reading.bits) bytes)) er))
 
-    table_is : table ≡ claimed_table (table_part (channel.plan.steps - 4) bytes) (channel.plan.steps + 1)
-    table_is =
-        let whole : take (length bytes - behind) (drop behind bytes) ≡ drop behind bytes = take_all (length bytes - behind) (drop behind bytes) (omega (arith, length-drop behind bytes)) in
-        read ∙ (ap (λ part. claimed_table part rows) whole ∙ (ap (λ k. claimed_table (drop k bytes) rows) en ∙ ap (claimed_table (table_part (channel.plan.steps - 4) bytes)) er))
+        verdict_is : verdict_of part.plan (drop part.before soft) (part.coded bits) table
+            ≡ verdict_of part.plan (drop part.before soft) (part.coded (claimed_bits (bits_part (length reading.bits) bytes) (length reading.bits))) (claimed_table (table_part (length reading.bits) bytes) (part.plan.steps + 1))
+        verdict_is =
+            ap (λ m. verdict_of part.plan (drop part.before soft) (part.coded m) table) bits_are
+            ∙ ap (verdict_of part.plan (drop part.before soft) (part.coded (claimed_bits (bits_part (length reading.bits) bytes) (length reading.bits)))) table_is
 
-    verdict_is : verdict_of channel.plan soft message table ≡ verdict_of channel.plan soft (claimed_bits (bits_part (channel.plan.steps - 4) bytes) (channel.plan.steps - 4)) (claimed_table (table_part (channel.plan.steps - 4) bytes) (channel.plan.steps + 1))
-    verdict_is = ap (λ m. verdict_of channel.plan soft m table) message_is ∙ ap (verdict_of channel.plan soft (claimed_bits (bits_part (channel.plan.steps - 4) bytes) (channel.plan.steps - 4))) table_is
+        pub part_cert : (t s : ℕ) (rule : Rule) → Refused t s rule ≡ verdict_of part.plan (drop part.before soft) (part.coded bits) table → part_why part soft reading bytes ≡ Some (Cert t s rule)
+        unfolding part_why pad_fault uncoded_fault cert_fault
+        part_cert t s rule e = rw (no_pad, bits_same, sym (e ∙ verdict_is)) refl
 
-    pub coded_cert : (t s : ℕ) (rule : Rule) → Refused t s rule ≡ verdict_of channel.plan soft message table → coded_why channel soft bytes ≡ Some (Cert t s rule)
-    unfolding coded_why pad_fault cert_fault
-    coded_cert t s rule e =
-        let f : has_pad (bits_part (channel.plan.steps - 4) bytes) (channel.plan.steps - 4) ≡ false = no_pad_found (bits_part (channel.plan.steps - 4) bytes) (channel.plan.steps - 4) no_pad in
-        let v : verdict_of channel.plan soft (claimed_bits (bits_part (channel.plan.steps - 4) bytes) (channel.plan.steps - 4)) (claimed_table (table_part (channel.plan.steps - 4) bytes) (channel.plan.steps + 1)) ≡ Refused t s rule = sym (e ∙ verdict_is) in
-        rw (f, v) refl
-
-    pub coded_head : (metric : ℕ) (mark : Mark) → Accepted ≡ verdict_of channel.plan soft message table → metric ≡ message_metric channel.plan soft (best_of channel.plan soft) → mark ≡ mark_of channel.parity (best_of channel.plan soft) →
-        head_why metric mark bytes ≡ coded_why channel soft bytes
-    unfolding coded_why pad_fault cert_fault head_why coded_reading
-    coded_head metric mark e em ek =
-        let f : has_pad (bits_part (channel.plan.steps - 4) bytes) (channel.plan.steps - 4) ≡ false = no_pad_found (bits_part (channel.plan.steps - 4) bytes) (channel.plan.steps - 4) no_pad in
-        let v : verdict_of channel.plan soft (claimed_bits (bits_part (channel.plan.steps - 4) bytes) (channel.plan.steps - 4)) (claimed_table (table_part (channel.plan.steps - 4) bytes) (channel.plan.steps + 1)) ≡ Accepted = sym (e ∙ verdict_is) in
-        rw (f, v, em, ek) refl
+        pub part_head : (metric : ℕ) (mark : Mark) → Accepted ≡ verdict_of part.plan (drop part.before soft) (part.coded bits) table → metric ≡ reading.metric → mark ≡ reading.mark →
+            head_why metric mark bytes ≡ part_why part soft reading bytes
+        unfolding part_why pad_fault uncoded_fault cert_fault head_why
+        part_head metric mark e em ek = rw (no_pad, bits_same, sym (e ∙ verdict_is), em, ek) refl

@@ -1,11 +1,10 @@
 -- What agreement says: the claim spells the defined readings, but that other tables that the rules
 -- accept may stand in place of the certificates. So each byte outside the certificates is the defined
 -- one. This project's own.
-use Rattle.std.specs.Prelude.{◌≡◌, ◌↔◌, ℕ, ◌+◌, ◌<◌, List, [], ◌∷◌, length, slice_index, None, Some, ℤ}
+use Rattle.std.specs.Prelude.{◌≡◌, ◌↔◌, ℕ, ◌+◌, ◌<◌, List, [], ◌∷◌, length, drop, slice_index, None, Some, ℤ}
 use Rattle.std.specs.List.{All}
 use Rattle.std.specs.declared.option.Option.{Option}
 use Rattle.tetra_bits.specs.Soft.{AllSoft}
-use Rattle.tetra_channels.specs.Channels.{Channel}
 use Rattle.tetra_puncture.specs.Best.{best_of}
 use Rattle.tetra_puncture.specs.Plan.{CodePlan}
 use Rattle.tetra_puncture.specs.Rules.{IsAccepted}
@@ -14,7 +13,7 @@ use Rattle.tetra_records.specs.Readings.{reading_spelling}
 use Rattle.tetra_rm.specs.declared.table.Rows.{Rows}
 use Rattle.tetra_session.specs.Built.{IsBuilt, IsBuiltLetter}
 use Rattle.tetra_session.specs.Fronts.{IsFront}
-use Rattle.tetra_session.specs.Readers.{reader, channel_of, field_reading}
+use Rattle.tetra_session.specs.Readers.{CodedPart, reader, coded_part, field_reading}
 use Rattle.tetra_session.specs.Heard.{slot_letter, slot_front, slot_reading}
 use Rattle.tetra_session.specs.declared.front.FrontField.{FrontField}
 use Rattle.tetra_session.specs.declared.front.Front.{Front}
@@ -33,12 +32,12 @@ pub record IsCertificate (plan : CodePlan) (soft : List ℤ) (table : List (List
   pub states : All (λ row. length row ≡ 16) table
   pub accepted : IsAccepted plan (spread_values plan soft) (best_of plan soft) table
 
--- such a table where the field has a code and values, and else none
-abbrev pub AreCertified : Option Channel → Option (List ℤ) → Option (List (List ℕ)) → Type 0
-AreCertified (Some channel) (Some soft) (Some table) = IsCertificate channel.plan soft table
-AreCertified (Some channel) (Some soft) None = ⊥
-AreCertified (Some channel) None None = Unit {0}
-AreCertified (Some channel) None (Some table) = ⊥
+-- such a table where a trellis reads some of the field and it has values, and else none
+abbrev pub AreCertified : Option CodedPart → Option (List ℤ) → Option (List (List ℕ)) → Type 0
+AreCertified (Some part) (Some soft) (Some table) = IsCertificate part.plan (drop part.before soft) table
+AreCertified (Some part) (Some soft) None = ⊥
+AreCertified (Some part) None None = Unit {0}
+AreCertified (Some part) None (Some table) = ⊥
 AreCertified None values None = Unit {0}
 AreCertified None values (Some table) = ⊥
 
@@ -48,7 +47,7 @@ pub record IsRight (rows : List ℕ) (field : FrontField) (claimed : Field) : Ty
   pub mark : claimed.reading.mark ≡ (field_reading rows field.name field.soft).mark
   pub metric : claimed.reading.metric ≡ (field_reading rows field.name field.soft).metric
   pub bits : claimed.reading.bits ≡ (field_reading rows field.name field.soft).bits
-  pub potentials : AreCertified (channel_of (reader field.name)) field.soft claimed.reading.potentials
+  pub potentials : AreCertified (coded_part (reader field.name)) field.soft claimed.reading.potentials
 
 abbrev pub AreRight : List ℕ → List FrontField → List Field → Type 0
 AreRight rows [] [] = Unit {0}

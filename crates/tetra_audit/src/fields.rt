@@ -4,8 +4,10 @@ ghost use Rattle.tetra_bits.specs.Packed.{bytes_for};
 ghost use Rattle.tetra_channels.specs.Fields.{access_reading};
 ghost use Rattle.tetra_parity.specs.Parity.{width};
 ghost use Rattle.tetra_session.specs.Fronts.{IsFrontField};
+ghost use Rattle.tetra_session.specs.Readers.{whole_speech_part};
+ghost use Rattle.tetra_speech.specs.Reading.{whole_reading};
 ghost use Rattle.tetra_audit.specs.Fields.{IsAudited, field_length};
-ghost use Rattle.tetra_audit.specs.Parts.{coded_why, plain_why, head_why};
+ghost use Rattle.tetra_audit.specs.Parts.{coded_why, part_why, plain_why, head_why};
 ghost use Rattle.tetra_audit.specs.Verdicts.{field_why};
 
 use crate::claims::read_table;
@@ -13,10 +15,11 @@ use crate::verdict::FieldWhy;
 use tetra_bits::{Bits, Mark, Potentials, Soft, pack, read_plain, unpack};
 use tetra_cert::{Verdict, check};
 use tetra_parity::{Parity, mark};
-use tetra_puncture::{P148, P292, Plan, TwoThirds};
+use tetra_puncture::{P148, P292, Plan, SpeechWhole, TwoThirds};
 use tetra_rm::{Rows, decode, message_bits};
 use tetra_session::FrontField;
 use tetra_settings::FieldName;
+use tetra_speech::{part, trellis_part, uncoded_part, values};
 
 /// The last two tests: the metric and the mark.
 #[tactic(auto, using(crate::proofs::Testing::metric_differs, crate::proofs::Testing::mark_differs, crate::proofs::Testing::head_agrees))]
@@ -91,6 +94,31 @@ fn coded_fault<P: Plan>(
     head_fault(bytes, potentials.at(0, 0), mark(parity, &message))
 }
 
+/// The tests of a field of speech in a whole slot: its uncoded bits are compared with the signs of their values. The
+/// certificate is read into `potentials`.
+fn speech_fault(soft: &Soft, bytes: &[u8], potentials: &mut Potentials) -> Option<FieldWhy>
+    requires values { length soft.now ≡ 432 }
+    requires size { length bytes.now ≡ 5959 }
+    ensures { result ≡ part_why whole_speech_part soft.now (whole_reading soft.now) bytes.now }
+{
+    let Ok(bits) = unpack(&bytes[3..39], 282) else {
+        return Some(FieldWhy::Pad);
+    };
+    if uncoded_part(&bits) != read_plain(&values(soft, 0, 102)) {
+        return Some(FieldWhy::Bits);
+    }
+    let message = trellis_part(&bits);
+    read_table(&bytes[39..], 185, potentials);
+    let coded = values(soft, 102, 330);
+    if let Verdict::Refused { step, state, rule } = check::<SpeechWhole>(
+        &coded, &message, potentials,
+    ) {
+        return Some(FieldWhy::Cert { step, state, rule });
+    }
+    let protected = part(&message, 112, 68);
+    head_fault(bytes, potentials.at(0, 0), mark(Parity::Eight, &protected))
+}
+
 /// The first test of a field that fails on its bytes. The rows are those of the access code. A certificate is read
 /// into `potentials`.
 pub fn field_fault(
@@ -124,6 +152,7 @@ pub fn field_fault(
         FieldName::D72 => plain_fault(&read_plain(soft), 0, Mark::Unchecked, bytes),
         FieldName::D48 => coded_fault::<P292>(none, soft, bytes, potentials),
         FieldName::D24 => coded_fault::<P148>(none, soft, bytes, potentials),
-        FieldName::Whole | FieldName::Single => unreachable!(),
+        FieldName::Whole => speech_fault(soft, bytes, potentials),
+        FieldName::Single => unreachable!(),
     }
 }

@@ -1,11 +1,9 @@
 -- An audit of what decoding wrote with certificates.
 use Prim.Native.Nat.{suc}
-use Rattle.std.proofs.Common.{◌≡◌, ℕ, ◌+◌, ◌-◌, ◌<◌, ◌≤◌, List, [], ◌∷◌, ◌++◌, length, map, Bool, true, false, IsTrue, cond, nat_lt, nat_eq, ℤ, pos, negsuc, arith, refl, sym, ap, subst, ◌∙◌, length-append, append-nil}
-use Rattle.std.proofs.lemmas.Bool.Decides.{nat_tests}
-use Rattle.std.proofs.lemmas.Int.{ints}
+use Rattle.std.proofs.Common.{◌≡◌, ℕ, ◌+◌, List, [], ◌∷◌, ◌++◌, length, map, IsTrue, ℤ, arith, refl, sym, ap, subst, ◌∙◌, length-append, append-nil}
 use Rattle.std.proofs.lemmas.List.{length-map}
 use Rattle.std.specs.List.{flat_map, range_with_len}
-use Rattle.tetra_bits.specs.Soft.{IsSoft, AllSoft, soft_value}
+use Rattle.tetra_bits.specs.Soft.{soft_value}
 use Rattle.tetra_records.specs.Readings.{reading_spelling}
 use Rattle.tetra_settings.specs.Validity.{IsValid}
 use Rattle.tetra_session.specs.Built.{is_built_letter, IsBuilt, IsBuiltLetter}

@@ -1,4 +1,4 @@
--- What blocks that fit a slot of data are.
+-- What blocks that fit a slot of data or of speech are.
 use Rattle.std.proofs.Common.{ℕ, ◌≡◌, Bool, true, List, length, arith, refl, IsTrue}
 use Rattle.tetra_settings.specs.Blocks.{Fits, IsTrafficMode, letter_of, load_bits}
 use Rattle.tetra_settings.specs.Slots.{use_of, mode_of, is_allowed, byte_of}
@@ -11,26 +11,26 @@ use Rattle.tetra_settings.specs.declared.slots.SlotUse.TheVariants.{Traffic as T
 use Rattle.tetra_settings.specs.declared.blocks.Body.{Body}
 use Rattle.tetra_settings.specs.declared.blocks.Body.TheVariants.{Full, Halves, Sync, Traffic, Stolen, Both, Control}
 use Rattle.tetra_settings.specs.declared.blocks.SlotBlocks.{SlotBlocks}
-use Rattle.tetra_session.specs.Built.{is_built, is_built_mode, IsBuiltLetter}
+use Rattle.tetra_session.specs.Built.{is_built, IsBuiltLetter}
 use Rattle.tetra_session.specs.Sent.{load_of}
 use Rattle.tetra_session.proofs.Fitting.{fits_traffic}
 
--- a mode of data carries this load
+-- a mode of traffic carries this load
 abbrev pub CarriesLoad : Mode → List Bool → Type 0
 CarriesLoad D72 load = length load ≡ 432
 CarriesLoad (D48 span) load = length load ≡ 288
 CarriesLoad (D24 span) load = length load ≡ 144
 CarriesLoad Sig load = ⊥
 CarriesLoad Cb load = ⊥
-CarriesLoad Speech load = ⊥
+CarriesLoad Speech load = length load ≡ 274
 
-carried : (mode : Mode) (load : List Bool) → IsTrafficMode mode → is_built_mode mode ≡ true → length load ≡ load_bits mode T → CarriesLoad mode load
-carried D72 load traffic built h = h
-carried (D48 span) load traffic built h = h
-carried (D24 span) load traffic built h = h
-carried Sig load traffic built h = absurd traffic
-carried Cb load traffic built h = absurd traffic
-carried Speech load traffic built h = absurd cc
+carried : (mode : Mode) (load : List Bool) → IsTrafficMode mode → length load ≡ load_bits mode T → CarriesLoad mode load
+carried D72 load traffic h = h
+carried (D48 span) load traffic h = h
+carried (D24 span) load traffic h = h
+carried Sig load traffic h = absurd traffic
+carried Cb load traffic h = absurd traffic
+carried Speech load traffic h = h
 
 -- a load of 432 bits is one of unprotected data
 pub raw_mode : (mode : Mode) (load : List Bool) → CarriesLoad mode load → length load ≡ 432 → mode ≡ D72
@@ -39,7 +39,16 @@ raw_mode (D48 span) load h e = absurd (omega (arith, h, e))
 raw_mode (D24 span) load h e = absurd (omega (arith, h, e))
 raw_mode Sig load h e = absurd h
 raw_mode Cb load h e = absurd h
-raw_mode Speech load h e = absurd h
+raw_mode Speech load h e = absurd (omega (arith, h, e))
+
+-- and one of 274 bits is one of speech
+pub speech_mode : (mode : Mode) (load : List Bool) → CarriesLoad mode load → length load ≡ 274 → mode ≡ Speech
+speech_mode Speech load h e = refl
+speech_mode D72 load h e = absurd (omega (arith, h, e))
+speech_mode (D48 span) load h e = absurd (omega (arith, h, e))
+speech_mode (D24 span) load h e = absurd (omega (arith, h, e))
+speech_mode Sig load h e = absurd h
+speech_mode Cb load h e = absurd h
 
 -- the body of a traffic slot whose letter is built
 traffic_of : (dir : Dir) (body : Body) → IsTrue (is_allowed dir TrafficUse (letter_of body)) → IsBuiltLetter (byte_of (letter_of body))
@@ -56,7 +65,7 @@ module _ (settings : Settings) (t : ℕ) (blocks : SlotBlocks) (built : is_built
   pub fits_data : (load : List Bool) → blocks.body ≡ Traffic load → (use_of settings t ≡ TrafficUse) × CarriesLoad (mode_of settings t) load
   fits_data load e =
       let there = fits_traffic settings t blocks fits load built e in
-      (there.0, carried (mode_of settings t) load there.1 there.2 there.3)
+      (there.0, carried (mode_of settings t) load there.1 there.3)
 
   pub fits_load : use_of settings t ≡ TrafficUse → IsBuiltLetter (byte_of (letter_of blocks.body)) → blocks.body ≡ Traffic (load_of blocks.body)
   fits_load u letter =

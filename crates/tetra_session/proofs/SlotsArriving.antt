@@ -4,7 +4,7 @@ use Rattle.std.proofs.lemmas.List.{length-take-le, length-drop, take-append-drop
 use Rattle.tetra_bits.specs.Digits.{digits}
 use Rattle.tetra_bits.specs.Numbered.{length-numbered}
 use Rattle.tetra_bits.specs.Undamaged.{IsUndamaged}
-use Rattle.tetra_bits.specs.declared.reading.Mark.TheVariants.{Unchecked}
+use Rattle.tetra_bits.specs.declared.reading.Mark.TheVariants.{Good, Unchecked}
 use Rattle.tetra_bursts.specs.Arrives.{FieldsArrive, KindArrives, KeepsControlUp}
 use Rattle.tetra_bursts.specs.Bursts.{blocks_down, blocks_up, synchronisation}
 use Rattle.tetra_bursts.specs.Kind.{kind}
@@ -19,8 +19,10 @@ use Rattle.tetra_interleave.specs.Placed.{placed}
 use Rattle.tetra_parity.specs.Marks.{good_mark}
 use Rattle.tetra_parity.specs.Parity.{width}
 use Rattle.tetra_rm.specs.lemmas.Words.{length-access_word}
+use Rattle.tetra_scramble.specs.Flips.{flipped, turned, FlippedBack, StaysUndamaged}
 use Rattle.tetra_scramble.specs.Key.{key_of, zero_key_bits}
 use Rattle.tetra_scramble.specs.lemmas.Entries.{length-flipped}
+use Rattle.tetra_settings.specs.Readings.{traffic_name}
 use Rattle.tetra_settings.specs.Slots.{byte_of, timeslot_of, use_of, mode_of}
 use Rattle.tetra_settings.specs.Blocks.{Fits, letter_of}
 use Rattle.tetra_settings.specs.declared.types.Dir.{Dir}
@@ -37,18 +39,21 @@ use Rattle.tetra_settings.specs.declared.blocks.Body.TheVariants.{Full, Halves, 
 use Rattle.tetra_settings.specs.declared.blocks.SlotBlocks.{SlotBlocks}
 use Rattle.tetra_settings.specs.declared.readings.Field.{Field}
 use Rattle.tetra_settings.specs.declared.readings.FieldName.{FieldName}
-use Rattle.tetra_settings.specs.declared.readings.FieldName.TheVariants.{Aach, Sync as SyncName, Half as HalfName, Hu as HuName, Full as FullName, D72 as D72Name}
+use Rattle.tetra_settings.specs.declared.readings.FieldName.TheVariants.{Aach, Sync as SyncName, Half as HalfName, Hu as HuName, Full as FullName, D72 as D72Name, Whole as WholeName}
 use Rattle.tetra_settings.specs.declared.readings.SlotReading.{SlotReading}
+use Rattle.tetra_speech.specs.Laws.{UndamagedSpeechArrives, UndamagedSpeechIsRead, whole_written}
+use Rattle.tetra_speech.specs.Reading.{whole_reading}
+use Rattle.tetra_speech.specs.Words.{whole_message, whole_type3, whole_type4, whole_front}
 use Rattle.tetra_session.specs.Built.{is_built, is_built_letter}
 use Rattle.tetra_session.specs.Readers.{read_field, read_front}
-use Rattle.tetra_session.specs.Spots.{place, places_of, access_spot, is_downlink}
+use Rattle.tetra_session.specs.Spots.{place, places_of, access_spot, is_downlink, spot_values}
 use Rattle.tetra_session.specs.Heard.{allowed_in, letter_by, letter_heard, field_heard, place_values, fields_heard, block_heard, slot_front, slot_reading}
 use Rattle.tetra_session.specs.Sent.{KeepsSlot, KeepsSlotOf, access_of, load_word, blocks_sent, burst_of, subslot_bits}
 use Rattle.tetra_session.specs.declared.spots.Spot.{Spot}
 use Rattle.tetra_session.specs.declared.spots.Spot.TheVariants.{Access, SyncAccess, Sync as SyncSpot, FirstBlock, SecondBlock, WholeSlot, FirstSubslot, SecondSubslot}
-use Rattle.tetra_session.specs.Arrives.{HasField, SubslotRead, SlotRead, SlotsArrive}
+use Rattle.tetra_session.specs.Arrives.{HasField, SubslotRead, BlocksRead, SlotRead, SlotsArrive}
 use Rattle.tetra_session.proofs.Fitting.{fits_full, fits_halves, fits_sync, fits_control, access_there, access_none}
-use Rattle.tetra_session.proofs.FittingData.{CarriesLoad, raw_mode, fits_data}
+use Rattle.tetra_session.proofs.FittingData.{CarriesLoad, raw_mode, speech_mode, fits_data}
 
 -- how many type-5 bits there are
 coded_size : (channel : Channel) (key block : List Bool) → length (type5_bits channel key block) ≡ channel.plan.sent
@@ -63,14 +68,18 @@ pub word_size : (channel : Channel) (key word : List Bool) → length (word_bits
 unfolding word_bits placed
 word_size channel key word = length-flipped _ key 1 ∙ length-numbered _ channel.plan.sent
 
--- the word of a load of data
+speech_size : (key a b : List Bool) → length (flipped (whole_type4 a b) key 1) ≡ 432
+unfolding whole_type4 placed
+speech_size key a b = length-flipped _ key 1 ∙ length-numbered _ 432
+
+-- the word of a load of data or of speech
 load_size : (key : List Bool) (mode : Mode) (before : List (List Bool)) (load : List Bool) → CarriesLoad mode load → length (load_word key mode before load) ≡ 432
 load_size key D72 before load h = raw_size key load ∙ h
 load_size key (D48 span) before load h = word_size data48 key _
 load_size key (D24 span) before load h = word_size data24 key _
 load_size key Sig before load h = absurd h
 load_size key Cb before load h = absurd h
-load_size key Speech before load h = absurd h
+load_size key Speech before load h = speech_size key (take 137 load) (take 137 (drop 137 load))
 
 pub access_size : (rows : List ℕ) (key : List Bool) (message : ℕ) → length (access_bits rows key message) ≡ 30
 unfolding access_bits digits
@@ -112,6 +121,33 @@ record Laws : Type 0 where
   access_read : UndamagedAccessIsRead
   fields : FieldsArrive
   kinds : KindArrives
+  back : FlippedBack
+  stays : StaysUndamaged
+  speech_arrives : UndamagedSpeechArrives
+  speech_read : UndamagedSpeechIsRead
+
+-- the signs turned back
+undamaged_turned : Laws → (x key : List Bool) (values : List ℤ) → IsUndamaged (flipped x key 1) values → IsUndamaged x (turned values key 1)
+undamaged_turned laws x key values u = subst (λ bits. IsUndamaged bits (turned values key 1)) (laws.back x key 1) (laws.stays (flipped x key 1) values key 1 u)
+
+-- a field of speech in a whole slot, by what is read of it
+speech_field : Laws → (key a b : List Bool) (values : List ℤ) (reading : SlotReading) (i : ℕ) (field : Field)
+    → ((other : Field) → get_or reading.fields.items i other ≡ field) → field.name ≡ WholeName → field.reading ≡ whole_reading (whole_front (turned values key 1))
+    → length a ≡ 137 → length b ≡ 137 → IsUndamaged (flipped (whole_type4 a b) key 1) values → HasField reading i WholeName Good (whole_message a b)
+unfolding whole_written
+speech_field laws key a b values reading i field there named is first second u =
+    let type_4 : IsUndamaged (whole_type4 a b) (turned values key 1) = undamaged_turned laws (whole_type4 a b) key values u in
+    let type_3 : IsUndamaged (whole_type3 a b) (whole_front (turned values key 1)) = laws.speech_arrives.whole a b (turned values key 1) type_4 in
+    let e = is ∙ laws.speech_read.whole a b (whole_front (turned values key 1)) first second type_3 in
+    record { field = field; there = there; name_is = named; mark_is = ap (λ r. r.mark) e; free = ap (λ r. r.metric) e; bits_are = ap (λ r. r.bits) e }
+
+-- the two frames of a load of speech
+module _ (load : List Bool) (size : length load ≡ 274) where
+  frame_a : length (take 137 load) ≡ 137
+  frame_a = length-take-le 137 load (omega (arith, size))
+
+  frame_b : length (take 137 (drop 137 load)) ≡ 137
+  frame_b = let d = length-drop 137 load in length-take-le 137 (drop 137 load) (omega (arith, size, d))
 
 module _ (laws : Laws) (settings : Settings) (history : List SlotBlocks) (blocks : SlotBlocks) (earlier : List (List ℤ)) (received : List ℤ) (built : is_built settings ≡ true)
     (fits : Fits settings (length history) blocks) (same : length earlier ≡ length history) (kept : KeepsSlot settings history blocks received) where
@@ -270,7 +306,23 @@ module _ (laws : Laws) (settings : Settings) (history : List SlotBlocks) (blocks
         );
       }
 
-  -- data
+  -- data and speech: the load, by its field
+  traffic_read : (load : List Bool) → CarriesLoad (mode_of settings (length history)) load → (dir : Dir) (i : ℕ)
+      → ((mode : Mode) → mode_of settings (length earlier) ≡ mode → (other : Field) → get_or reading.fields.items i other ≡ field_at dir (traffic_name mode WholeName) WholeSlot)
+      → IsUndamaged (load_word key (mode_of settings (length history)) before load) (spot_values dir WholeSlot received) → BlocksRead (Traffic load) reading i
+  unfolding read_field field_heard place_values
+  traffic_read load carries dir i there u =
+      let values : List ℤ = spot_values dir WholeSlot received in (
+        λ l.
+            let raw : mode_of settings (length history) ≡ D72 = raw_mode (mode_of settings (length history)) load carries l in
+            plain_field reading i D72Name (field_at dir D72Name WholeSlot) load (there D72 (ap (mode_of settings) same ∙ raw)) refl
+            (laws.raw_read key load values (subst (λ m. IsUndamaged (load_word key m before load) values) raw u)),
+        λ l.
+            let speech : mode_of settings (length history) ≡ Speech = speech_mode (mode_of settings (length history)) load carries l in
+            speech_field laws key (take 137 load) (take 137 (drop 137 load)) values reading i (field_at dir WholeName WholeSlot) (there Speech (ap (mode_of settings) same ∙ speech)) refl refl
+            (frame_a load l) (frame_b load l) (subst (λ m. IsUndamaged (load_word key m before load) values) speech u),
+      )
+
   traffic_down : (load : List Bool) → blocks.body ≡ Traffic load → settings.dir ≡ Dl → SlotRead blocks reading
   unfolding read_field field_heard place_values
   traffic_down load e d =
@@ -287,13 +339,9 @@ module _ (laws : Laws) (settings : Settings) (history : List SlotBlocks) (blocks
         letter = lettered T letter ∙ sym (ap (λ b. byte_of (letter_of b)) e);
         fields = rw (e, there.1) (
           access_read T there.0 refl d letter there.2 parts.access,
-          λ l.
-              let raw : mode_of settings (length history) ≡ D72 = raw_mode (mode_of settings (length history)) load fit.1 l in
-              let mode : mode_of settings (length earlier) ≡ D72 = ap (mode_of settings) same ∙ raw in
-              plain_field reading 1 D72Name (field_at Dl D72Name WholeSlot) load
-              (λ other. ap (λ xs. get_or xs 1 other) (items Dl T d letter) ∙ ap (λ m. get_or (map (read_field rows) (map (field_heard Dl key complete received) (places_of Dl T m))) 1 other) mode) refl
-              (laws.raw_read key load (first_half true received ++ second_half true received)
-              (subst (λ m. IsUndamaged (load_word key m before load) (first_half true received ++ second_half true received)) raw (joined word size _ _ parts.block_1 parts.block_2))),
+          traffic_read load fit.1 Dl 1
+              (λ mode e other. ap (λ xs. get_or xs 1 other) (items Dl T d letter) ∙ ap (λ m. get_or (map (read_field rows) (map (field_heard Dl key complete received) (places_of Dl T m))) 1 other) e)
+              (joined word size _ _ parts.block_1 parts.block_2),
         );
       }
 
@@ -311,13 +359,9 @@ module _ (laws : Laws) (settings : Settings) (history : List SlotBlocks) (blocks
       record {
         letter = lettered T letter ∙ sym (ap (λ b. byte_of (letter_of b)) e);
         fields = rw (e, none)
-            (λ l.
-            let raw : mode_of settings (length history) ≡ D72 = raw_mode (mode_of settings (length history)) load fit.1 l in
-            let mode : mode_of settings (length earlier) ≡ D72 = ap (mode_of settings) same ∙ raw in
-            plain_field reading 0 D72Name (field_at Ul D72Name WholeSlot) load
-            (λ other. ap (λ xs. get_or xs 0 other) (items Ul T d letter) ∙ ap (λ m. get_or (map (read_field rows) (map (field_heard Ul key complete received) (places_of Ul T m))) 0 other) mode) refl
-            (laws.raw_read key load (first_half false received ++ second_half false received)
-            (subst (λ m. IsUndamaged (load_word key m before load) (first_half false received ++ second_half false received)) raw (joined word size _ _ parts.block_1 parts.block_2))));
+            (traffic_read load fit.1 Ul 0
+            (λ mode e other. ap (λ xs. get_or xs 0 other) (items Ul T d letter) ∙ ap (λ m. get_or (map (read_field rows) (map (field_heard Ul key complete received) (places_of Ul T m))) 0 other) e)
+            (joined word size _ _ parts.block_1 parts.block_2));
       }
 
   -- control bursts
@@ -361,7 +405,21 @@ module _ (laws : Laws) (settings : Settings) (history : List SlotBlocks) (blocks
   by_body (Stolen first load) e dir d letter = absurd (let b = rw e at letter in cc)
   by_body (Both first second load) e dir d letter = absurd (let b = rw e at letter in cc)
 
-pub slots_arrive : UndamagedIsRead bsch → UndamagedIsRead hu → UndamagedIsRead half → UndamagedIsRead full → UndamagedRawIsRead → UndamagedAccessIsRead → FieldsArrive → KindArrives → SlotsArrive
-slots_arrive bsch_read hu_read half_read full_read raw_read access_read fields kinds settings history blocks earlier received built fits letter same kept =
-    by_body (record { bsch_read = bsch_read; hu_read = hu_read; half_read = half_read; full_read = full_read; raw_read = raw_read; access_read = access_read; fields = fields; kinds = kinds })
+pub slots_arrive : UndamagedIsRead bsch → UndamagedIsRead hu → UndamagedIsRead half → UndamagedIsRead full → UndamagedRawIsRead → UndamagedAccessIsRead → FieldsArrive → KindArrives
+    → FlippedBack → StaysUndamaged → UndamagedSpeechArrives → UndamagedSpeechIsRead → SlotsArrive
+slots_arrive bsch_read hu_read half_read full_read raw_read access_read fields kinds back stays speech_arrives speech_read settings history blocks earlier received built fits letter same kept =
+    by_body (record {
+      bsch_read = bsch_read;
+      hu_read = hu_read;
+      half_read = half_read;
+      full_read = full_read;
+      raw_read = raw_read;
+      access_read = access_read;
+      fields = fields;
+      kinds = kinds;
+      back = back;
+      stays = stays;
+      speech_arrives = speech_arrives;
+      speech_read = speech_read;
+    })
     settings history blocks earlier received built fits same kept blocks.body refl settings.dir refl letter

@@ -1,5 +1,5 @@
 -- What is read of undamaged slots.
-use Rattle.std.specs.Prelude.{◌≡◌, ℕ, ◌+◌, ℤ, Bool, List, length, slice_index_or, None, Some}
+use Rattle.std.specs.Prelude.{◌≡◌, ℕ, ◌+◌, ℤ, Bool, List, length, take, drop, slice_index_or, None, Some}
 use Rattle.std.specs.declared.option.Option.{Option}
 use Rattle.tetra_bits.specs.Digits.{digits}
 use Rattle.tetra_bits.specs.Soft.{AllSoft}
@@ -13,9 +13,10 @@ use Rattle.tetra_settings.specs.declared.blocks.Body.{Body}
 use Rattle.tetra_settings.specs.declared.blocks.Body.TheVariants.{Full, Halves, Sync, Traffic, Stolen, Both, Control}
 use Rattle.tetra_settings.specs.declared.blocks.SlotBlocks.{SlotBlocks}
 use Rattle.tetra_settings.specs.declared.readings.FieldName.{FieldName}
-use Rattle.tetra_settings.specs.declared.readings.FieldName.TheVariants.{Aach, Sync as SyncName, Half, Hu, Full as FullName, D72}
+use Rattle.tetra_settings.specs.declared.readings.FieldName.TheVariants.{Aach, Sync as SyncName, Half, Hu, Full as FullName, D72, Whole}
 use Rattle.tetra_settings.specs.declared.readings.Field.{Field}
 use Rattle.tetra_settings.specs.declared.readings.SlotReading.{SlotReading}
+use Rattle.tetra_speech.specs.Words.{whole_message}
 use Rattle.tetra_session.specs.Built.{IsBuilt, IsBuiltLetter}
 use Rattle.tetra_session.specs.Sent.{KeepsSlot, slot_written}
 use Rattle.tetra_session.specs.Heard.{slot_reading}
@@ -35,14 +36,16 @@ SubslotRead None reading i = Unit {0}
 SubslotRead (Some block) reading i = HasField reading i Hu Good (message_of hu block)
 
 -- the blocks of a body are read, in the fields from i on: with their parity and Good, and unprotected data, loads of 432
--- bits, Unchecked. Protected data comes over several slots: see there
+-- bits, Unchecked; speech is a load of 274 bits. Protected data comes over several slots: see there
 abbrev pub BlocksRead : Body → SlotReading → ℕ → Type 0
 BlocksRead (Full block) reading i = HasField reading i FullName Good (message_of full block)
 BlocksRead (Halves first second) reading i =
     HasField reading i Half Good (message_of half first) × HasField reading (i + 1) Half Good (message_of half second)
 BlocksRead (Sync sync second) reading i =
     HasField reading i SyncName Good (message_of bsch sync) × HasField reading (i + 1) Half Good (message_of half second)
-BlocksRead (Traffic load) reading i = length load ≡ 432 → HasField reading i D72 Unchecked load
+BlocksRead (Traffic load) reading i =
+    (length load ≡ 432 → HasField reading i D72 Unchecked load)
+    × (length load ≡ 274 → HasField reading i Whole Good (whole_message (take 137 load) (take 137 (drop 137 load))))
 BlocksRead (Stolen first load) reading i = ⊥
 BlocksRead (Both first second load) reading i = ⊥
 BlocksRead (Control first second) reading i = SubslotRead first reading i × SubslotRead second reading (i + 1)

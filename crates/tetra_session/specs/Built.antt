@@ -1,5 +1,5 @@
--- What is built: timeslots of signalling, of control bursts and of data, and the letters F, H, S, T and C.
-use Rattle.std.specs.Prelude.{ℕ, Bool, true, false, ◌||◌, ◌==◌, IsTrue}
+-- What is built: all timeslots, and the letters F, H, S, T and C.
+use Rattle.std.specs.Prelude.{ℕ, Bool, true, ◌||◌, ◌==◌, IsTrue}
 use Rattle.std.specs.List.{list_all}
 use Rattle.tetra_settings.specs.declared.types.Mode.{Mode}
 use Rattle.tetra_settings.specs.declared.types.Mode.TheVariants.{Sig, Cb, D72, D48, D24, Speech}
@@ -13,7 +13,7 @@ is_built_mode Cb = true
 is_built_mode D72 = true
 is_built_mode (D48 span) = true
 is_built_mode (D24 span) = true
-is_built_mode Speech = false
+is_built_mode Speech = true
 
 -- settings: modes that are built
 abbrev pub is_built : Settings → Bool
@@ -39,5 +39,5 @@ IsBuiltName Full = Unit {0}
 IsBuiltName D72Field = Unit {0}
 IsBuiltName D48Field = Unit {0}
 IsBuiltName D24Field = Unit {0}
-IsBuiltName Whole = ⊥
+IsBuiltName Whole = Unit {0}
 IsBuiltName Single = ⊥

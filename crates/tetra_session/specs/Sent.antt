@@ -7,6 +7,7 @@ use Rattle.tetra_bursts.specs.declared.table.Train.{Train}
 use Rattle.tetra_bursts.specs.declared.table.Train.TheVariants.{N, P as PTrain}
 use Rattle.tetra_channels.specs.Channels.{bsch, hu, half, full, data48, data24, type3_bits, type5_bits, word_bits, raw_bits, access_bits}
 use Rattle.tetra_diag.specs.Diagonal.{spread_word, SpreadStands}
+use Rattle.tetra_scramble.specs.Flips.{flipped}
 use Rattle.tetra_scramble.specs.Key.{key_of, zero_key_bits}
 use Rattle.tetra_settings.specs.Slots.{timeslot_of, mode_of}
 use Rattle.tetra_settings.specs.declared.types.Dir.{Dir}
@@ -17,6 +18,7 @@ use Rattle.tetra_settings.specs.declared.types.Settings.{Settings}
 use Rattle.tetra_settings.specs.declared.blocks.Body.{Body}
 use Rattle.tetra_settings.specs.declared.blocks.Body.TheVariants.{Full, Halves, Sync, Traffic, Stolen, Both, Control}
 use Rattle.tetra_settings.specs.declared.blocks.SlotBlocks.{SlotBlocks}
+use Rattle.tetra_speech.specs.Words.{whole_type4}
 use Rattle.tetra_session.specs.Four.{all_brought, FourStand}
 use Rattle.tetra_session.specs.Time.{span_slots}
 use Rattle.tetra_session.specs.declared.sender.Sender.{Sender}
@@ -54,7 +56,7 @@ data_block D72 load = []
 data_block Speech load = []
 
 -- the 432 type-5 bits of the load of a traffic slot, by the mode of its timeslot and the blocks of protected data before
--- it; speech is not built
+-- it; a load of speech is frames A and B
 abbrev pub load_word : List Bool → Mode → List (List Bool) → List Bool → List Bool
 load_word key D72 before load = raw_bits key load
 load_word key (D48 span) before load =
@@ -63,7 +65,7 @@ load_word key (D24 span) before load =
     word_bits data24 key (spread_word (span_slots span) (before ++ data_block (D24 span) load ∷ []))
 load_word key Sig before load = []
 load_word key Cb before load = []
-load_word key Speech before load = []
+load_word key Speech before load = flipped (whole_type4 (take 137 load) (take 137 (drop 137 load))) key 1
 
 -- the type-5 bits of a subslot that is sent
 abbrev pub subslot_bits : List Bool → Option (List Bool) → Option (List Bool)

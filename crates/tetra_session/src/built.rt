@@ -1,4 +1,4 @@
-// What is built: timeslots of signalling, of control bursts and of data, and the letters F, H, S, T and C.
+// What is built: all timeslots, and the letters F, H, S, T and C.
 ghost use Rattle.std.specs.Prelude.{◌≡◌};
 ghost use Rattle.tetra_session.specs.Built.{is_built_mode, is_built, is_built_letter};
 
@@ -8,12 +8,11 @@ fn is_built_mode(mode: Mode) -> bool
     ensures { result ≡ is_built_mode mode }
 {
     match mode {
-        Mode::Sig | Mode::Cb | Mode::D72 | Mode::D48(_) | Mode::D24(_) => true,
-        Mode::Speech => false,
+        Mode::Sig | Mode::Cb | Mode::D72 | Mode::D48(_) | Mode::D24(_) | Mode::Speech => true,
     }
 }
 
-/// Whether a session with these settings is built: no timeslot of speech.
+/// Whether a session with these settings is built: all are.
 pub fn is_built(settings: &Settings) -> bool
     ensures { result ≡ is_built settings.now }
 {

@@ -20,8 +20,9 @@ use tetra_bits::{Bits, Mark, Reading, Soft};
 use tetra_bursts::{Allowed, Train};
 use tetra_channels::{Aach, Bsch, Data24, Data48, Full, Half, Hu, Raw72};
 use tetra_rm::Rows;
-use tetra_scramble::flip_soft_into;
+use tetra_scramble::{flip_soft, flip_soft_into};
 use tetra_settings::{Dir, Field, FieldName, Letter, Mode, Settings, SlotUse};
+use tetra_speech::{decode_half_into, decode_whole_into, half_front_into, whole_front_into};
 
 /// Lists that are filled on the way of a slot, kept so that they serve again.
 #[derive(Drop)]
@@ -96,7 +97,8 @@ pub fn hear(
         FieldName::D72 => flip_soft_into(type5, &keys.colour, 1, values),
         FieldName::D48 => Data48::front_into(type5, &keys.colour, values),
         FieldName::D24 => Data24::front_into(type5, &keys.colour, values),
-        FieldName::Whole | FieldName::Single => unreachable!(),
+        FieldName::Whole => whole_front_into(&flip_soft(type5, &keys.colour, 1), values),
+        FieldName::Single => half_front_into(&flip_soft(type5, &keys.colour, 1), values),
     }
 }
 
@@ -160,7 +162,8 @@ pub fn read(name: FieldName, rows: &Rows, soft: &Soft, reading: &mut Reading)
         FieldName::D72 => Raw72::decode1_into(soft, reading),
         FieldName::D48 => Data48::decode3_into(soft, reading),
         FieldName::D24 => Data24::decode3_into(soft, reading),
-        FieldName::Whole | FieldName::Single => unreachable!(),
+        FieldName::Whole => decode_whole_into(soft, reading),
+        FieldName::Single => decode_half_into(soft, reading),
     }
 }
 

@@ -6,6 +6,8 @@ ghost use Rattle.tetra_session.specs.Data.{DataArrives};
 use tetra_bursts::{fields_arrive, kind_arrives, written_arrives};
 use tetra_channels::{Aach, Bsch, Data24, Data48, Full, Half, Hu, Raw72};
 use tetra_diag::undamaged_arrives;
+use tetra_scramble::{flipped_back, stays_undamaged};
+use tetra_speech::{undamaged_speech_arrives, undamaged_speech_is_read};
 
 /// A law: what is sent in a timeslot depends on no other timeslot. Settings that agree in direction, colour, rows of
 /// the access code, place of slot 0 and the timeslot's mode, and blocks that are equal in its slots, give equal slots there.
@@ -31,6 +33,10 @@ pub fn slots_arrive()
     Hu::undamaged_is_read();
     Raw72::undamaged_is_read();
     Aach::undamaged_is_read();
+    undamaged_speech_arrives();
+    undamaged_speech_is_read();
+    flipped_back();
+    stays_undamaged();
     fields_arrive();
     kind_arrives();
 }

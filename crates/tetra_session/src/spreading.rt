@@ -3,6 +3,7 @@ ghost use Rattle.std.specs.Prelude.{◌≡◌, ◌≤◌, ◌++◌, ◌∷◌, [
 ghost use Rattle.tetra_diag.specs.Diagonal.{spread_word};
 ghost use Rattle.tetra_settings.specs.Blocks.{IsTrafficMode, load_bits};
 ghost use Rattle.tetra_settings.specs.declared.slots.Letter.TheVariants as Letter;
+ghost use Rattle.tetra_settings.specs.declared.types.Mode.TheVariants as Mode;
 ghost use Rattle.tetra_session.specs.Built.{is_built_mode};
 ghost use Rattle.tetra_session.specs.Sent.{SpreadLaneStands, data_block, load_word};
 ghost use Rattle.tetra_session.specs.Time.{depth, span_slots};
@@ -10,8 +11,9 @@ ghost use Rattle.tetra_session.specs.Time.{depth, span_slots};
 use tetra_bits::Bits;
 use tetra_channels::{Data24, Data48, Raw72};
 use tetra_diag::Spread;
-use tetra_scramble::Key;
+use tetra_scramble::{Key, flip_bits};
 use tetra_settings::{Mode, Span};
+use tetra_speech::{encode_whole, part};
 
 /// What a sender keeps of one timeslot: the last blocks of protected data, where its mode spreads them over slots.
 #[derive(Drop)]
@@ -81,6 +83,17 @@ pub fn load_word(lane: &mut SpreadLane, mode: Mode, load: &Bits, key: &Key) -> B
         Mode::D72 => Raw72::encode(load, key),
         Mode::D48(_) => Data48::encode3(&lane.push(&Data48::type3(load)), key),
         Mode::D24(_) => Data24::encode3(&lane.push(&Data24::type3(load)), key),
-        Mode::Sig | Mode::Cb | Mode::Speech => unreachable!(),
+        Mode::Speech => speech_word(load, key),
+        Mode::Sig | Mode::Cb => unreachable!(),
     }
+}
+
+/// The 432 type-5 bits of two frames of speech.
+fn speech_word(load: &Bits, key: &Key) -> Bits
+    requires { length load.now ≡ 274 }
+    ensures word { result ≡ load_word key.now Mode.Speech [] load.now }
+    ensures size { length result ≡ 432 }
+{
+    let word = encode_whole(&part(load, 0, 137), &part(load, 137, 137));
+    flip_bits(&word, key, 1)
 }

@@ -1,12 +1,13 @@
 -- What is read of a field: its sizes, and how great its numbers are.
-use Rattle.std.proofs.Common.{◌≡◌, ℕ, ◌+◌, ◌*◌, ◌<◌, ◌≤◌, inl, inr, Bool, true, false, List, [], Option, None, Some, ℤ, length, get_or, arith, refl, le_trans, mul-le-mul_left, ◌∙◌}
+use Rattle.std.proofs.Common.{◌≡◌, ℕ, ◌+◌, ◌*◌, ◌<◌, ◌≤◌, inl, inr, Bool, true, false, List, [], Option, None, Some, ℤ, length, take, drop, get_or, length-drop, arith, refl, le_trans, mul-le-mul_left, ◌∙◌}
 use Rattle.std.specs.Prelude.{MatchOption, IfSome}
 use Rattle.std.proofs.lemmas.Bool.{cases_lt}
 use Rattle.std.proofs.lemmas.List.{get_or_past, length-replicate}
+use Rattle.std.proofs.lemmas.List.Elements.{All-drop}
 use Rattle.tetra_bits.specs.Cost.{metric}
 use Rattle.tetra_bits.specs.Plain.{best_plain}
 use Rattle.tetra_bits.specs.Readings.{entry}
-use Rattle.tetra_bits.specs.Soft.{AllWithin}
+use Rattle.tetra_bits.specs.Soft.{IsWithin, AllWithin}
 use Rattle.tetra_bits.specs.lemmas.Best.{best_is_first}
 use Rattle.tetra_bits.specs.lemmas.Within.{metric_within}
 use Rattle.tetra_channels.specs.Channels.{Channel, bsch, hu, half, full, data48, data24}
@@ -16,10 +17,14 @@ use Rattle.tetra_parity.specs.Parity.{holds_of}
 use Rattle.tetra_parity.specs.declared.kind.Parity.{Parity}
 use Rattle.tetra_parity.specs.declared.kind.Parity.TheVariants.{Nothing, Four, Eight, Sixteen}
 use Rattle.tetra_puncture.specs.Best.{best_of}
+use Rattle.tetra_puncture.specs.Places.{speech_whole}
 use Rattle.tetra_puncture.specs.Plan.{CodePlan, PlacesRise, PlacesLie}
 use Rattle.tetra_puncture.specs.ToGo.{potentials_of}
 use Rattle.tetra_puncture.specs.lemmas.Bounds.{message_metric_within}
 use Rattle.tetra_puncture.specs.lemmas.Shapes.{length-best_of, length-potentials_of, length-row_of_potentials, potential_within}
+use Rattle.tetra_puncture.specs.lemmas.SpeechWhole.{speech_whole_sizes, speech_whole_rise, speech_whole_lie}
+use Rattle.tetra_speech.specs.Reading.{whole_reading}
+use Rattle.tetra_speech.specs.lemmas.Sizes.{whole_size}
 use Rattle.tetra_rm.specs.Code.{access_word, access_metric, best_access}
 use Rattle.tetra_settings.specs.Readings.{sizes, message_bits, certificate_rows, IsMarked, MayBeNotYet, rows_of, IsField}
 use Rattle.tetra_settings.specs.declared.readings.FieldName.{FieldName}
@@ -79,6 +84,21 @@ raw_field values h =
     let first = best_is_first (length values) (metric values) in
     record { bits = first.has_length ∙ h; mark = tt; potentials = refl }
 
+speech_field : (values : List ℤ) → length values ≡ 432 → IsField (record { name = Whole; reading = whole_reading values })
+unfolding whole_reading mark_of
+speech_field values h =
+    let message = best_of speech_whole (drop 102 values) in
+    let holds = holds_of Eight (drop 112 message) in
+    let size : length message ≡ 180 = length-best_of speech_whole (drop 102 values) in
+    let count : length (potentials_of speech_whole (drop 102 values)) ≡ rows_of Whole (mark_by Eight holds) =
+    rw (rows_by Whole Eight holds) (length-potentials_of speech_whole (drop 102 values)) in
+    let some : 0 < rows_of Whole (mark_by Eight holds) = rw (rows_by Whole Eight holds) (omega arith) in
+    record {
+      bits = whole_size (best_plain (take 102 values)) message size;
+      mark = marked_by Whole Eight holds;
+      potentials = (some, count);
+    }
+
 -- what is read of a built field is as its name says
 pub field_formed : (name : FieldName) (rows : List ℕ) (values : List ℤ) → IsBuiltName name → length values ≡ (sizes name).values
     → IsField (record { name = name; reading = read_by (reader name) rows values })
@@ -90,7 +110,7 @@ field_formed Full rows values built h = coded_field Full full values (reader_law
 field_formed D72 rows values built h = raw_field values h
 field_formed D48 rows values built h = coded_field D48 data48 values (reader_laws D48) refl
 field_formed D24 rows values built h = coded_field D24 data24 values (reader_laws D24) refl
-field_formed Whole rows values built h = absurd built
+field_formed Whole rows values built h = speech_field values h
 field_formed Single rows values built h = absurd built
 
 -- an entry of the potentials, and 0 behind them
@@ -126,6 +146,17 @@ raw_bounded : (top : ℕ) (values : List ℤ) → IsBounded top (record { name =
 unfolding raw_reading
 raw_bounded top values = record { metric = omega arith; potentials = tt }
 
+speech_bounded : (top : ℕ) (values : List ℤ) → AllWithin top values → length values ≤ 432 → IsBounded top (record { name = Whole; reading = whole_reading values })
+unfolding whole_reading
+speech_bounded top values all few =
+    let coded = drop 102 values in
+    let within : AllWithin top coded = All-drop (IsWithin top) 102 values all in
+    let short : length coded ≤ 432 = omega (arith, length-drop 102 values, few) in
+    record {
+      metric = le_trans (message_metric_within top speech_whole coded (best_of speech_whole coded) within) (mul-le-mul_left top short);
+      potentials = λ t s. le_trans (entry_within top speech_whole speech_whole_rise speech_whole_lie coded within t s) (mul-le-mul_left top speech_whole_sizes.few_sent);
+    }
+
 few_of : (name : FieldName) (values : List ℤ) → (sizes name).values ≤ 432 → length values ≡ (sizes name).values → length values ≤ 432
 few_of name values few h = omega (arith, few, h)
 
@@ -140,7 +171,7 @@ field_bounded top Full rows values built h all = coded_bounded top Full full val
 field_bounded top D72 rows values built h all = raw_bounded top values
 field_bounded top D48 rows values built h all = coded_bounded top D48 data48 values (reader_laws D48) all (few_of D48 values (omega arith) h)
 field_bounded top D24 rows values built h all = coded_bounded top D24 data24 values (reader_laws D24) all (few_of D24 values (omega arith) h)
-field_bounded top Whole rows values built h all = absurd built
+field_bounded top Whole rows values built h all = speech_bounded top values all (few_of Whole values (omega arith) h)
 field_bounded top Single rows values built h all = absurd built
 
 -- the reading of a block that is not there yet

@@ -62,6 +62,9 @@ data_48 dir = record { built = tt; here = tt; size = refl }
 data_24 : (dir : Dir) → FitsSpot dir (place D24Field WholeSlot)
 data_24 dir = record { built = tt; here = tt; size = refl }
 
+speech : (dir : Dir) → FitsSpot dir (place Whole WholeSlot)
+speech dir = record { built = tt; here = tt; size = refl }
+
 first_sub : FitsSpot Ul (place Hu FirstSubslot)
 first_sub = record { built = tt; here = refl; size = refl }
 
@@ -119,7 +122,7 @@ data_places dir Cb traffic built = absurd traffic
 data_places dir D72 traffic built = whole_places dir D72 tt raw
 data_places dir (D48 span) traffic built = whole_places dir (D48 span) tt data_48
 data_places dir (D24 span) traffic built = whole_places dir (D24 span) tt data_24
-data_places dir Speech traffic built = absurd cc
+data_places dir Speech traffic built = whole_places dir Speech tt speech
 
 -- the letter of a slot of a use
 abbrev letter_in : Dir → SlotUse → List ℤ → Letter
@@ -152,7 +155,7 @@ by_mode Ul Cb frame soft has built h = control_up Cb
 by_mode dir D72 frame soft has built h = traffic_frame dir D72 soft (nat_eq frame 18) (data_places dir D72 tt built) h
 by_mode dir (D48 span) frame soft has built h = traffic_frame dir (D48 span) soft (nat_eq frame 18) (data_places dir (D48 span) tt built) h
 by_mode dir (D24 span) frame soft has built h = traffic_frame dir (D24 span) soft (nat_eq frame 18) (data_places dir (D24 span) tt built) h
-by_mode dir Speech frame soft has built h = absurd cc
+by_mode dir Speech frame soft has built h = traffic_frame dir Speech soft (nat_eq frame 18) (data_places dir Speech tt built) h
 
 -- a slot of built settings whose letter is built: its letter and the names of its fields are a row, and each place fits
 pub are_places : (settings : Settings) (t : ℕ) (soft : List ℤ) → IsValid settings → is_built settings ≡ true → IsBuiltLetter (slot_letter settings t soft)

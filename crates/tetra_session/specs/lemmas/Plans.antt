@@ -1,7 +1,7 @@
 -- The plans by which fields are read have the laws of plans, and the sizes of the table of fields.
 use Rattle.std.proofs.Common.{◌≡◌, ◌+◌, arith, refl}
 use Rattle.tetra_channels.specs.Channels.{Channel}
-use Rattle.tetra_puncture.specs.Places.{IsTwoThirds}
+use Rattle.tetra_puncture.specs.Places.{IsTwoThirds, speech_whole, speech_half}
 use Rattle.tetra_puncture.specs.Plan.{HasSizes, PlacesRise, PlacesLie}
 use Rattle.tetra_puncture.specs.lemmas.TwoThirds.{two_thirds_sizes, two_thirds_rise, two_thirds_lie}
 use Rattle.tetra_puncture.specs.lemmas.P148.{p148_sizes, p148_rise, p148_lie}
@@ -10,7 +10,7 @@ use Rattle.tetra_settings.specs.Readings.{sizes}
 use Rattle.tetra_settings.specs.declared.readings.FieldName.{FieldName}
 use Rattle.tetra_settings.specs.declared.readings.FieldName.TheVariants.{Aach, Sync, Half, Hu, Full, D72, D48, D24, Whole, Single}
 use Rattle.tetra_settings.specs.declared.readings.FieldSizes.{FieldSizes}
-use Rattle.tetra_session.specs.Readers.{Reader, Access, Plain, Trellis, NotBuilt, reader}
+use Rattle.tetra_session.specs.Readers.{Reader, Access, Plain, Trellis, WholeSpeech, HalfSpeech, reader}
 
 -- the laws of the plan of a channel, and its numbers in the table of fields
 pub record HasPlanLaws (channel : Channel) (row : FieldSizes) : Type 0 where
@@ -26,7 +26,8 @@ abbrev pub HasReaderLaws : Reader → FieldSizes → Type 0
 HasReaderLaws Access row = row.steps ≡ 0
 HasReaderLaws Plain row = row.steps ≡ 0
 HasReaderLaws (Trellis channel) row = HasPlanLaws channel row
-HasReaderLaws NotBuilt row = Unit {0}
+HasReaderLaws WholeSpeech row = row.steps ≡ speech_whole.steps
+HasReaderLaws HalfSpeech row = row.steps ≡ speech_half.steps
 
 bsch_sound : IsTwoThirds 80 120
 bsch_sound = (refl, omega arith, omega arith, refl)
@@ -77,5 +78,5 @@ reader_laws Full = record {
 reader_laws D72 = refl
 reader_laws D48 = record { sizes = p292_sizes; rise = p292_rise; lie = p292_lie; steps = refl; sent = refl; bits = refl }
 reader_laws D24 = record { sizes = p148_sizes; rise = p148_rise; lie = p148_lie; steps = refl; sent = refl; bits = refl }
-reader_laws Whole = tt
-reader_laws Single = tt
+reader_laws Whole = refl
+reader_laws Single = refl

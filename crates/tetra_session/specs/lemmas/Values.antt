@@ -16,11 +16,13 @@ use Rattle.tetra_bursts.specs.declared.table.Train.TheVariants.{N}
 use Rattle.tetra_channels.specs.Channels.{Channel, bsch, hu, half, full, data48, data24, type4_place, front_values}
 use Rattle.tetra_diag.specs.Diagonal.{gathered_value, gathered}
 use Rattle.tetra_diag.specs.lemmas.Within.{gathered_within}
+use Rattle.tetra_interleave.specs.Matrix.{matrix_place}
 use Rattle.tetra_interleave.specs.Placed.{taken, entry_from}
 use Rattle.tetra_interleave.specs.lemmas.Placed.{length-taken}
 use Rattle.tetra_scramble.specs.Flips.{turned}
 use Rattle.tetra_scramble.specs.lemmas.Entries.{length-turned, turned_within}
 use Rattle.tetra_scramble.specs.Key.{key_of}
+use Rattle.tetra_speech.specs.Words.{whole_front, half_front}
 use Rattle.tetra_settings.specs.Readings.{sizes, MayBeNotYet, traffic_name}
 use Rattle.tetra_settings.specs.Slots.{timeslot_of, mode_of}
 use Rattle.tetra_settings.specs.declared.types.Dir.{Dir}
@@ -30,7 +32,7 @@ use Rattle.tetra_settings.specs.declared.readings.FieldName.{FieldName}
 use Rattle.tetra_settings.specs.declared.readings.FieldName.TheVariants.{Aach, Sync, Half, Hu, Full, D72, D48, D24, Whole, Single}
 use Rattle.tetra_session.specs.Built.{IsBuiltName}
 use Rattle.tetra_session.specs.Heard.{key_for, place_values, word_heard, words_heard, block_heard, is_spread, values_of}
-use Rattle.tetra_session.specs.Readers.{Reader, Access, Plain, Trellis, NotBuilt, reader, heard_by}
+use Rattle.tetra_session.specs.Readers.{Reader, Access, Plain, Trellis, WholeSpeech, HalfSpeech, reader, heard_by}
 use Rattle.tetra_session.specs.Spots.{is_downlink, place, spot_values, spot_size, FitsSpot}
 use Rattle.tetra_session.specs.Time.{timeslot_mode, depth, counts, picked, own}
 use Rattle.tetra_session.specs.declared.spots.Place.{Place}
@@ -62,17 +64,21 @@ spot_within top dir WholeSlot soft all =
 spot_within top dir FirstSubslot soft all = read_within top First control_up soft all
 spot_within top dir SecondSubslot soft all = read_within top Second control_up soft all
 
+taken_within : (top n : ℕ) (place : ℕ → ℕ) (values : List ℤ) → AllWithin top values → AllWithin top (taken (pos 0) n place values)
+unfolding taken entry_from
+taken_within top n place values all = all_numbered (IsWithin top) (entry_from (pos 0) place values) n (λ i. within_at top values all (place i - 1))
+
 front_within : (top : ℕ) (channel : Channel) (key : List Bool) (values : List ℤ) → AllWithin top values → AllWithin top (front_values channel key values)
-unfolding front_values taken entry_from
-front_within top channel key values all =
-    all_numbered (IsWithin top) (entry_from (pos 0) (type4_place channel) (turned values key 1)) channel.plan.sent
-    (λ i. within_at top (turned values key 1) (turned_within top values key 1 all) (type4_place channel i - 1))
+unfolding front_values
+front_within top channel key values all = taken_within top channel.plan.sent (type4_place channel) (turned values key 1) (turned_within top values key 1 all)
 
 heard_within : (top : ℕ) (by_ : Reader) (key : List Bool) (values : List ℤ) → AllWithin top values → AllWithin top (heard_by by_ key values)
+unfolding whole_front half_front
 heard_within top Access key values all = turned_within top values key 1 all
 heard_within top Plain key values all = turned_within top values key 1 all
 heard_within top (Trellis channel) key values all = front_within top channel key values all
-heard_within top NotBuilt key values all = All-nil (IsWithin top)
+heard_within top WholeSpeech key values all = taken_within top 432 (matrix_place 24 18) (turned values key 1) (turned_within top values key 1 all)
+heard_within top HalfSpeech key values all = taken_within top 216 (matrix_place 24 9) (turned values key 1) (turned_within top values key 1 all)
 
 -- the values of a field are as great as those of its slot
 pub place_within : (top : ℕ) (dir : Dir) (key : List Bool) (soft : List ℤ) (place : Place) → AllWithin top soft → AllWithin top (place_values dir key soft place)
@@ -97,7 +103,7 @@ spot_length law dir SecondSubslot soft h = (law soft h).subslot_2
 -- after the key a built field has as many values as the table of fields says
 pub heard_size : (name : FieldName) (key : List Bool) (values : List ℤ) → IsBuiltName name → length values ≡ (sizes name).values
     → length (heard_by (reader name) key values) ≡ (sizes name).values
-unfolding front_values
+unfolding front_values whole_front
 heard_size Aach key values built h = length-turned values key 1 ∙ h
 heard_size Sync key values built h = length-taken (pos 0) 120 (type4_place bsch) (turned values key 1)
 heard_size Half key values built h = length-taken (pos 0) 216 (type4_place half) (turned values key 1)
@@ -106,7 +112,7 @@ heard_size Full key values built h = length-taken (pos 0) 432 (type4_place full)
 heard_size D72 key values built h = length-turned values key 1 ∙ h
 heard_size D48 key values built h = length-taken (pos 0) 432 (type4_place data48) (turned values key 1)
 heard_size D24 key values built h = length-taken (pos 0) 432 (type4_place data24) (turned values key 1)
-heard_size Whole key values built h = absurd built
+heard_size Whole key values built h = length-taken (pos 0) 432 (matrix_place 24 18) (turned values key 1)
 heard_size Single key values built h = absurd built
 
 pub place_size : FieldsHaveSizes → (dir : Dir) (key : List Bool) (soft : List ℤ) (place : Place) → FitsSpot dir place → length soft ≡ 510

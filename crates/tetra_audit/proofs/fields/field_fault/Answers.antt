@@ -6,9 +6,10 @@ use Rattle.tetra_session.specs.Readers.{reader}
 use Rattle.tetra_settings.specs.Readings.{sizes, message_bits}
 use Rattle.tetra_settings.specs.declared.readings.FieldName.{FieldName}
 use Rattle.tetra_settings.specs.declared.readings.FieldSizes.{FieldSizes}
-use Rattle.tetra_settings.specs.declared.readings.FieldName.TheVariants.{Aach, Sync, Half, Hu, Full, D72, D48, D24}
+use Rattle.tetra_settings.specs.declared.readings.FieldName.TheVariants.{Aach, Sync, Half, Hu, Full, D72, D48, D24, Whole}
 use Rattle.tetra_audit.specs.Parts.{plain_why}
-use Rattle.tetra_audit.proofs.FieldCases.{length_there, length_not_yet, why_coded, why_access, why_raw, why_not_yet, values_there, length-best_plain}
+use Rattle.tetra_audit.proofs.FieldCases.{length_there, length_not_yet, why_coded, why_access, why_raw, why_not_yet, why_speech, values_there}
+use Rattle.tetra_audit.proofs.Codes.{length-best_plain}
 use Rattle.tetra_audit.proofs.fields.field_fault.Goals as goal
 
 pub returns-in-Aach : goal.returns-in-Aach
@@ -31,6 +32,9 @@ returns-in-D48 c = c.coded_fault-in-D48.ensures 103 ∙ why_coded c.args.rows.no
 
 pub returns-in-D24 : goal.returns-in-D24
 returns-in-D24 c = c.coded_fault-in-D24.ensures 103 ∙ why_coded c.args.rows.now.0 c.args.field.now c.in-Some.soft data24 c.args.bytes.now (ap reader c.in-D24.is) c.in-Some.is
+
+pub returns-in-Whole : goal.returns-in-Whole
+returns-in-Whole c = c.speech_fault.ensures ∙ why_speech c.args.rows.now.0 c.args.field.now c.in-Some.soft c.args.bytes.now c.in-Whole.is c.in-Some.is
 
 pub plain_fault-requires : goal.plain_fault-requires
 plain_fault-requires c =
@@ -65,6 +69,9 @@ coded_fault-requires-in-D48-clause-size c = c.requires.size ∙ length_there c.a
 
 pub coded_fault-requires-in-D24-clause-size : goal.coded_fault-requires-in-D24-clause-size
 coded_fault-requires-in-D24-clause-size c = c.requires.size ∙ length_there c.args.field.now D24 c.in-Some.soft c.in-D24.is c.in-Some.is
+
+pub speech_fault-requires-clause-size : goal.speech_fault-requires-clause-size
+speech_fault-requires-clause-size c = c.requires.size ∙ length_there c.args.field.now Whole c.in-Some.soft c.in-Whole.is c.in-Some.is
 
 pub plain_fault-requires-in-D72 : goal.plain_fault-requires-in-D72
 plain_fault-requires-in-D72 c =

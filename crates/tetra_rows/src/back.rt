@@ -13,7 +13,7 @@ struct Back {
     slots: usize,
 }
 
-const BACK: [Back; 10] = [
+const BACK: [Back; 11] = [
     Back {
         words: "",
         blocks: "46 00 04 34*00",
@@ -93,6 +93,12 @@ const BACK: [Back; 10] = [
             54 4E 00 00 36*00 54 4E 00 00 36*00 46 47 00 00 33*00 07 D7 40 46 47 00 00 33*00 07 D7 40 \
             54 55 00 00 A0 35*00 54 55 00 00 50 35*00 46 47 00 00 33*00 07 D7 40 46 47 00 00 33*00 07 D7 40",
         slots: 16,
+    },
+    Back {
+        words: "dir=ul ts1=speech",
+        blocks: "54 35*00",
+        readings: "54 47 00 00 36*00",
+        slots: 1,
     },
 ];
 

@@ -5,7 +5,8 @@ use tetra_bits::{Bits, Soft, cost, soft_of};
 use tetra_bursts::{Allowed, Train, kind, phase_pair};
 use tetra_channels::Full;
 use tetra_diag::{Gather, Spread};
-use tetra_puncture::{P148, P292, Plan, TwoThirds, keep};
+use tetra_parity::{add8, holds8};
+use tetra_puncture::{P148, P292, Plan, SpeechHalf, SpeechWhole, TwoThirds, keep};
 use tetra_rm::{decode, encode, own_rows};
 use tetra_scramble::{Colour, Key, key, zero_key};
 
@@ -90,6 +91,33 @@ fn places_of_protected_data(rt: HostRuntime) {
     }
     for (j, place) in [(36usize, 49usize), (432, 591)] {
         assert_eq!(rt; P148::place(j), place, "of 148 steps, bit {j}");
+    }
+}
+
+#[test]
+fn places_of_speech(rt: HostRuntime) {
+    for (j, place) in [(169usize, 337usize), (330, 551)] {
+        assert_eq!(rt; SpeechWhole::place(j), place, "of a whole slot, bit {j}");
+    }
+    for (j, place) in [(85usize, 169usize), (165, 281)] {
+        assert_eq!(rt; SpeechHalf::place(j), place, "of half a slot, bit {j}");
+    }
+}
+
+#[test]
+fn parity_of_speech(rt: HostRuntime) {
+    let mut block = padded(&rt, false, 60);
+    assert!(rt; block.len() == 60);
+    let mut message = add8(&block);
+    assert!(rt; message == Bits::zeros(68) && message.len() == 68);
+    assert!(rt; holds8(&message));
+    message.set(67, true);
+    assert!(rt; !holds8(&message));
+    block.set(59, true);
+    let message = add8(&block);
+    for (k, bit) in b"00010011".iter().enumerate() {
+        assert!(rt; k < 8 && message.len() == 68);
+        assert_eq!(rt; message.get(60 + k), *bit == b'1', "bit {k}");
     }
 }
 

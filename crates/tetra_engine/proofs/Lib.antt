@@ -8,6 +8,7 @@ pub mod Ends
 pub mod Encoded
 pub mod SoftSlots
 pub mod OwnAudits
+pub mod DataReadings
 pub mod OwnReadings
 pub mod Said
 pub mod MeetsEnd

@@ -10,6 +10,7 @@ use Rattle.tetra_bits.specs.Soft.{IsSoft, AllSoft, soft_value}
 use Rattle.tetra_records.specs.Readings.{reading_spelling}
 use Rattle.tetra_session.specs.Arrives.{SlotRead, SlotsArrive, WrittenSlotsArrive}
 use Rattle.tetra_session.specs.Built.{is_built_letter, IsBuilt}
+use Rattle.tetra_session.specs.Data.{DataArrives}
 use Rattle.tetra_session.specs.Heard.{letter_heard, slot_letter, block_heard, slot_front, slot_reading}
 use Rattle.tetra_session.specs.Readers.{read_front}
 use Rattle.tetra_session.specs.Sent.{slot_written, KeepsSlot}
@@ -20,6 +21,7 @@ use Rattle.tetra_settings.specs.declared.readings.SlotReading.{SlotReading}
 use Rattle.tetra_settings.specs.declared.types.Form.{Form}
 use Rattle.tetra_settings.specs.declared.types.Settings.{Settings}
 use Rattle.tetra_engine.specs.declared.status.Status.TheVariants.{Done}
+use Rattle.tetra_engine.proofs.DataReadings.{readings_of, over_slots, all_over_slots}
 use Rattle.tetra_engine.proofs.OwnAudits.{letter_same}
 use Rattle.tetra_engine.specs.Agreeing.{to_read_back}
 use Rattle.tetra_engine.specs.Arriving.{IsKept, AreReceived, AreRead, records, NameBlocks, slots_for, ReceivedIsDecoded, EncodedIsDecoded}
@@ -40,12 +42,7 @@ module _ (settings : Settings) (form : Form) (max : ℕ) where
   unfolding slot_reading slot_front read_front letter_heard use_of
   letter_read history soft = refl
 
-  -- the readings of slots behind those before
-  readings_of : List (List ℕ) → List (List ℕ) → List SlotReading
-  readings_of before [] = []
-  readings_of before (slot ∷ slots) = slot_reading settings (map soft_values before) (soft_values slot) ∷ readings_of (before ++ slot ∷ []) slots
-
-  spelled : (slots before : List (List ℕ)) → outputs (decoding (to_read_back settings form max)) before slots ≡ records form slots (readings_of before slots)
+  spelled : (slots before : List (List ℕ)) → outputs (decoding (to_read_back settings form max)) before slots ≡ records form slots (readings_of settings before slots)
   unfolding readings_of
   spelled [] before = refl
   spelled (slot ∷ slots) before =
@@ -94,7 +91,7 @@ module _ (settings : Settings) (form : Form) (max : ℕ) where
     )
 
     read : (all sent : List SlotBlocks) (slots before : List (List ℕ)) → length before ≡ length sent → AreInputs (encoding settings) sent all → AreReceived settings sent all slots
-        → AreRead (IsKept settings) sent all slots (readings_of before slots)
+        → AreRead (IsKept settings) sent all slots (readings_of settings before slots)
     unfolding readings_of
     read [] sent [] before same each received = tt
     read [] sent (slot ∷ slots) before same each received = absurd received
@@ -107,8 +104,8 @@ module _ (settings : Settings) (form : Form) (max : ℕ) where
 no_more : (slot rest : List ℕ) → length slot ≡ 510 → [] ≡ slot ++ rest → ⊥
 no_more slot rest size e = absurd (omega (arith, ap length e, length-append slot rest))
 
-pub received_is_decoded : SlotsArrive → ReceivedIsDecoded
-received_is_decoded arrive settings form max bytes end ran received built few each =
+pub received_is_decoded : SlotsArrive → DataArrives → ReceivedIsDecoded
+received_is_decoded arrive arrive_data settings form max bytes end ran received built few each =
     let all : length received ≡ length ran.xs = many settings form max arrive built ran.xs [] received each in
     record {
       xs = received;
@@ -122,8 +119,9 @@ received_is_decoded arrive settings form max bytes end ran received built few ea
       closes = refl;
       slots = ran.slots ∙ sym all;
       output = record {
-        readings = readings_of settings form max [] received;
+        readings = readings_of settings [] received;
         read = read settings form max arrive built ran.xs [] received [] refl ran.cut.each each;
+        over_slots = over_slots settings arrive_data built ran.xs received all ran.cut.each;
         spelled = spelled settings form max received [];
       };
     }
@@ -172,13 +170,13 @@ one_by_one : (settings : Settings) (all before : List SlotBlocks) → concat (sl
 one_by_one settings [] before = refl
 one_by_one settings (blocks ∷ all) before = ap (λ rest. slot_bytes (slot_written settings before blocks) ++ rest) (one_by_one settings all (before ++ blocks ∷ []))
 
-pub encoded_is_decoded : SlotsArrive → WrittenSlotsArrive → EncodedIsDecoded
-encoded_is_decoded arrive keep settings form max bytes written end ran built few =
+pub encoded_is_decoded : SlotsArrive → DataArrives → WrittenSlotsArrive → EncodedIsDecoded
+encoded_is_decoded arrive arrive_data keep settings form max bytes written end ran built few =
     let anything : Outcome (encoding settings) settings.max bytes (λ output. ⊤) end = record { xs = ran.xs; rest = ran.rest; cut = ran.cut; closes = ran.closes; slots = ran.slots; output = tt } in
     let slots : List (List ℕ) = slots_for settings [] ran.xs in
-    let decoded = received_is_decoded arrive settings form max bytes end anything slots built few (all_received settings keep ran.xs []) in
+    let decoded = received_is_decoded arrive arrive_data settings form max bytes end anything slots built few (all_received settings keep ran.xs []) in
     let same : concat slots ≡ written = one_by_one settings ran.xs [] ∙ ran.output in
-    let named : NameBlocks (λ before blocks slot. ⊤) form ran.xs slots (outputs (decoding (to_read_back settings form max)) [] decoded.xs) = record { readings = decoded.output.readings; read = all_read settings keep ran.xs [] decoded.output.readings decoded.output.read; spelled = decoded.output.spelled } in
-    let again : Outcome (decoding (to_read_back settings form max)) max (concat slots) (NameBlocks (λ before blocks slot. ⊤) form ran.xs slots) (record { status = Done; slots = end.slots }) =
+    let named : NameBlocks (λ before blocks slot. ⊤) settings form ran.xs slots (outputs (decoding (to_read_back settings form max)) [] decoded.xs) = record { readings = decoded.output.readings; read = all_read settings keep ran.xs [] decoded.output.readings decoded.output.read; over_slots = all_over_slots settings (kept settings keep) ran.xs decoded.output.readings decoded.output.over_slots; spelled = decoded.output.spelled } in
+    let again : Outcome (decoding (to_read_back settings form max)) max (concat slots) (NameBlocks (λ before blocks slot. ⊤) settings form ran.xs slots) (record { status = Done; slots = end.slots }) =
     record { xs = decoded.xs; rest = decoded.rest; cut = decoded.cut; closes = decoded.closes; slots = decoded.slots; output = named } in
     rw same at again

@@ -10,7 +10,7 @@ ghost use Rattle.tetra_engine.specs.Shapes.{OneCut};
 
 use tetra_audit::own_records_agree;
 use tetra_records::records_are_unambiguous;
-use tetra_session::{slots_arrive, written_slots_arrive};
+use tetra_session::{data_arrives, slots_arrive, written_slots_arrive};
 
 /// A list of bytes has one cut into block records, one into slots, and one into slots with reading records.
 pub fn one_cut()
@@ -41,11 +41,13 @@ pub fn decoded_agrees()
 
 /// What a run of encoding in which no read and no write failed wrote is read back, slot by slot: decoding what was
 /// received of it, in either form under the same settings, with any greatest number of slots that is not below theirs,
-/// ends Done and names the blocks of each slot that arrived undamaged, whatever became of the others.
+/// ends Done and names the blocks of each slot that arrived undamaged, whatever became of the others. Of protected data
+/// it names each block whose slots all arrived undamaged, at the last of them.
 pub fn encoded_is_decoded()
     ensures received { ReceivedIsDecoded }
     ensures as_written { EncodedIsDecoded }
 {
     slots_arrive();
+    data_arrives();
     written_slots_arrive();
 }

@@ -12,19 +12,19 @@ use Rattle.tetra_bits.specs.lemmas.Best.{best_is_first}
 use Rattle.tetra_channels.specs.Channels.{Channel, bsch, hu, half, full, data48, data24}
 use Rattle.tetra_channels.specs.Fields.{access_reading, raw_reading}
 use Rattle.tetra_rm.specs.Code.{access_metric, best_access}
-use Rattle.tetra_speech.specs.Reading.{whole_reading}
+use Rattle.tetra_speech.specs.Reading.{whole_reading, half_reading}
 use Rattle.tetra_session.specs.Fronts.{IsFrontField}
-use Rattle.tetra_session.specs.Readers.{whole_speech_part, CodedPart, Reader, Trellis, reader, coded_part, whole_part, read_by, field_reading, not_yet}
+use Rattle.tetra_session.specs.Readers.{whole_speech_part, half_speech_part, CodedPart, Reader, Trellis, reader, coded_part, whole_part, read_by, field_reading, not_yet}
 use Rattle.tetra_session.specs.declared.front.FrontField.{FrontField}
 use Rattle.tetra_session.specs.lemmas.Plans.{HasPlanLaws}
 use Rattle.tetra_settings.specs.Readings.{sizes, message_bits, certificate_rows, MayBeNotYet}
 use Rattle.tetra_settings.specs.declared.readings.FieldName.{FieldName}
 use Rattle.tetra_settings.specs.declared.readings.FieldName.TheVariants.{Aach, Sync, Half, Hu, Full, D72, D48, D24, Whole, Single}
 use Rattle.tetra_audit.specs.Agreement.{AreCertified}
-use Rattle.tetra_audit.specs.Fields.{IsAuditedAt, IsAudited, claimed_rows, field_length}
+use Rattle.tetra_audit.specs.Fields.{claimed_rows, field_length}
 use Rattle.tetra_audit.specs.Parts.{plain_why, part_why, coded_why}
 use Rattle.tetra_audit.specs.Verdicts.{first_of, field_tests, field_why, plain_tests}
-use Rattle.tetra_audit.proofs.Codes.{length-best_plain, has_speech, HasPart, has_whole, laws_of, rows_of}
+use Rattle.tetra_audit.proofs.Codes.{length-best_plain, has_whole_speech, has_half_speech, HasPart, has_whole, laws_of, rows_of}
 
 -- the length of a field
 pub length_there : (field : FrontField) (name : FieldName) (soft : List ℤ) → field.name ≡ name → field.soft ≡ Some soft → field_length field ≡ 3 + bytes_for (message_bits name) + 32 * certificate_rows name
@@ -120,33 +120,43 @@ coded_is rows name soft channel e size =
       has = subst (λ (by_ : Reader). HasPart (whole_part channel.plan) (message_bits name) soft (read_by by_ rows soft)) (sym e) (has_whole name channel soft laws size);
     }
 
-speech_is : (rows : List ℕ) (soft : List ℤ) → length soft ≡ 432 → IsCoded rows Whole (Some soft)
-speech_is rows soft size = record {
+whole_is : (rows : List ℕ) (soft : List ℤ) → length soft ≡ 432 → IsCoded rows Whole (Some soft)
+whole_is rows soft size = record {
   part = whole_speech_part;
   soft = soft;
   of_part = refl;
   there = refl;
   many = refl;
-  has = has_speech soft size;
+  has = has_whole_speech soft size;
 }
 
--- each audited field is one or the other
-by_cases : (rows : List ℕ) (name : FieldName) (values : Option (List ℤ)) → MatchOption values (MayBeNotYet name) (λ v. length v ≡ (sizes name).values) → IsAuditedAt name values
-    → IsPlain rows name values ⊎ IsCoded rows name values
-by_cases rows name None is audited = inl (not_yet_is rows name)
-by_cases rows Aach (Some soft) is audited = inl (access_is rows soft)
-by_cases rows Sync (Some soft) is audited = inr (coded_is rows Sync soft bsch refl is)
-by_cases rows Half (Some soft) is audited = inr (coded_is rows Half soft half refl is)
-by_cases rows Hu (Some soft) is audited = inr (coded_is rows Hu soft hu refl is)
-by_cases rows Full (Some soft) is audited = inr (coded_is rows Full soft full refl is)
-by_cases rows D72 (Some soft) is audited = inl (raw_is rows soft is)
-by_cases rows D48 (Some soft) is audited = inr (coded_is rows D48 soft data48 refl is)
-by_cases rows D24 (Some soft) is audited = inr (coded_is rows D24 soft data24 refl is)
-by_cases rows Whole (Some soft) is audited = inr (speech_is rows soft is)
-by_cases rows Single (Some soft) is audited = absurd audited
+single_is : (rows : List ℕ) (soft : List ℤ) → length soft ≡ 216 → IsCoded rows Single (Some soft)
+single_is rows soft size = record {
+  part = half_speech_part;
+  soft = soft;
+  of_part = refl;
+  there = refl;
+  many = refl;
+  has = has_half_speech soft size;
+}
 
-pub plain_or_coded : (rows : List ℕ) (field : FrontField) → IsFrontField field → IsAudited field → IsPlain rows field.name field.soft ⊎ IsCoded rows field.name field.soft
-plain_or_coded rows field is audited = by_cases rows field.name field.soft is.soft audited
+-- each field is one or the other
+by_cases : (rows : List ℕ) (name : FieldName) (values : Option (List ℤ)) → MatchOption values (MayBeNotYet name) (λ v. length v ≡ (sizes name).values)
+    → IsPlain rows name values ⊎ IsCoded rows name values
+by_cases rows name None is = inl (not_yet_is rows name)
+by_cases rows Aach (Some soft) is = inl (access_is rows soft)
+by_cases rows Sync (Some soft) is = inr (coded_is rows Sync soft bsch refl is)
+by_cases rows Half (Some soft) is = inr (coded_is rows Half soft half refl is)
+by_cases rows Hu (Some soft) is = inr (coded_is rows Hu soft hu refl is)
+by_cases rows Full (Some soft) is = inr (coded_is rows Full soft full refl is)
+by_cases rows D72 (Some soft) is = inl (raw_is rows soft is)
+by_cases rows D48 (Some soft) is = inr (coded_is rows D48 soft data48 refl is)
+by_cases rows D24 (Some soft) is = inr (coded_is rows D24 soft data24 refl is)
+by_cases rows Whole (Some soft) is = inr (whole_is rows soft is)
+by_cases rows Single (Some soft) is = inr (single_is rows soft is)
+
+pub plain_or_coded : (rows : List ℕ) (field : FrontField) → IsFrontField field → IsPlain rows field.name field.soft ⊎ IsCoded rows field.name field.soft
+plain_or_coded rows field is = by_cases rows field.name field.soft is.soft
 
 -- the tests of a field of which a trellis reads a part, of one of a channel, of one without a trellis, and of an access
 -- field
@@ -161,10 +171,15 @@ pub why_coded : (rows : List ℕ) (field : FrontField) (soft : List ℤ) (channe
 unfolding field_why part_why
 why_coded rows field soft channel bytes e f = rw (f, e) refl
 
-pub why_speech : (rows : List ℕ) (field : FrontField) (soft : List ℤ) (bytes : List ℕ) → field.name ≡ Whole → field.soft ≡ Some soft
+pub why_whole : (rows : List ℕ) (field : FrontField) (soft : List ℤ) (bytes : List ℕ) → field.name ≡ Whole → field.soft ≡ Some soft
     → part_why whole_speech_part soft (whole_reading soft) bytes ≡ field_why rows field bytes
 unfolding field_why part_why
-why_speech rows field soft bytes e f = rw (f, e) refl
+why_whole rows field soft bytes e f = rw (f, e) refl
+
+pub why_single : (rows : List ℕ) (field : FrontField) (soft : List ℤ) (bytes : List ℕ) → field.name ≡ Single → field.soft ≡ Some soft
+    → part_why half_speech_part soft (half_reading soft) bytes ≡ field_why rows field bytes
+unfolding field_why part_why
+why_single rows field soft bytes e f = rw (f, e) refl
 
 pub why_plain : (rows : List ℕ) (field : FrontField) (bytes : List ℕ) → IsPlain rows field.name field.soft → plain_why (field_reading rows field.name field.soft) bytes ≡ field_why rows field bytes
 unfolding field_why plain_why

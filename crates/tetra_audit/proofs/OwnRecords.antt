@@ -22,7 +22,6 @@ use Rattle.tetra_puncture.specs.lemmas.OwnCosts.{costs_to_go_are_accepted}
 use Rattle.tetra_puncture.specs.lemmas.Shapes.{length-potentials_of, length-potential_row}
 use Rattle.tetra_records.specs.Readings.{two_bytes, certificate_bytes, field_bytes, reading_spelling}
 use Rattle.tetra_rm.specs.declared.table.Rows.{Rows}
-use Rattle.tetra_session.specs.Built.{IsBuiltName}
 use Rattle.tetra_session.specs.Fronts.{IsFrontField, IsFront, IsBounded}
 use Rattle.tetra_session.specs.Heard.{letter_heard, place_values, values_of, block_heard, field_heard, fields_heard, slot_front, slot_reading}
 use Rattle.tetra_session.specs.Readers.{CodedPart, reader, coded_part, field_reading, read_field, read_front}
@@ -35,14 +34,13 @@ use Rattle.tetra_session.specs.lemmas.Places.{are_places}
 use Rattle.tetra_session.specs.lemmas.Values.{place_size, place_within, values_size, values_within, block_size, block_within}
 use Rattle.tetra_settings.specs.Readings.{sizes, MayBeNotYet}
 use Rattle.tetra_settings.specs.Slots.{byte_of, mode_of}
-use Rattle.tetra_settings.specs.declared.readings.FieldName.{FieldName}
 use Rattle.tetra_settings.specs.declared.readings.Field.{Field}
 use Rattle.tetra_settings.specs.declared.slots.Letter.{Letter}
 use Rattle.tetra_settings.specs.declared.slots.Letter.TheVariants.{F, H, S, T, P, Q, C}
 use Rattle.tetra_settings.specs.declared.types.Dir.{Dir}
 use Rattle.tetra_settings.specs.declared.types.Form.TheVariants.{Audit}
 use Rattle.tetra_audit.specs.Agreement.{IsCertificate, AreCertified, IsRight, AreRight, AreBytes, OwnRecordsAgree}
-use Rattle.tetra_audit.specs.Fields.{IsAuditedAt, IsAudited, field_length, claim_length}
+use Rattle.tetra_audit.specs.Fields.{field_length, claim_length}
 use Rattle.tetra_audit.specs.Verdicts.{slot_verdict}
 use Rattle.tetra_audit.specs.declared.verdict.SlotVerdict.TheVariants.{Agrees}
 use Rattle.tetra_audit.proofs.FieldCases.{IsPlain, IsCoded, plain_or_coded}
@@ -75,14 +73,14 @@ module _ (rows : List ℕ) (field : FrontField) where
       (subst (λ (p : Option CodedPart). AreCertified p (Some coded.soft) (Some costs)) (sym coded.of_part)
       (certificate coded.part.plan values coded.has.sizes coded.has.rise coded.has.lie coded.has.sent)))
 
-  own_right : IsFrontField field → IsAudited field → IsRight rows field (read_field rows field)
+  own_right : IsFrontField field → IsRight rows field (read_field rows field)
   unfolding read_field
-  own_right is audited = record {
+  own_right is = record {
     name = refl;
     mark = refl;
     metric = refl;
     bits = refl;
-    potentials = elim (plain_or_coded rows field is audited) [ inl plain ↦ plain_certified plain | inr coded ↦ coded_certified coded ];
+    potentials = elim (plain_or_coded rows field is) [ inl plain ↦ plain_certified plain | inr coded ↦ coded_certified coded ];
   }
 
 -- numbers that fit two bytes
@@ -121,18 +119,17 @@ field_are_bytes top field few small =
 
 -- the fields of a front, read
 module _ (rows : List ℕ) where
-  rights : (fields : List FrontField) → All IsFrontField fields → All IsAudited fields → AreRight rows fields (map (read_field rows) fields)
-  rights [] is audited = tt
-  rights (field ∷ fields) is audited =
-      (own_right rows field (is 0 field (omega arith)) (audited 0 field (omega arith)), rights fields (λ k d h. is (suc k) d (omega arith)) (λ k d h. audited (suc k) d (omega arith)))
+  rights : (fields : List FrontField) → All IsFrontField fields → AreRight rows fields (map (read_field rows) fields)
+  rights [] is = tt
+  rights (field ∷ fields) is =
+      (own_right rows field (is 0 field (omega arith)), rights fields (λ k d h. is (suc k) d (omega arith)))
 
-  fields_long : (fields : List FrontField) → All IsFrontField fields → All IsAudited fields → length (flat_map (field_bytes Audit) (map (read_field rows) fields)) ≡ sum_by field_length fields
-  fields_long [] is audited = refl
-  fields_long (field ∷ fields) is audited =
+  fields_long : (fields : List FrontField) → All IsFrontField fields → length (flat_map (field_bytes Audit) (map (read_field rows) fields)) ≡ sum_by field_length fields
+  fields_long [] is = refl
+  fields_long (field ∷ fields) is =
       let here : IsFrontField field = is 0 field (omega arith) in
-      let seen : IsAudited field = audited 0 field (omega arith) in
-      let first : length (field_bytes Audit (read_field rows field)) ≡ field_length field = right_length rows field (read_field rows field) (own_right rows field here seen) here seen in
-      let rest : length (flat_map (field_bytes Audit) (map (read_field rows) fields)) ≡ sum_by field_length fields = fields_long fields (λ k d h. is (suc k) d (omega arith)) (λ k d h. audited (suc k) d (omega arith)) in
+      let first : length (field_bytes Audit (read_field rows field)) ≡ field_length field = right_length rows field (read_field rows field) (own_right rows field here) here in
+      let rest : length (flat_map (field_bytes Audit) (map (read_field rows) fields)) ≡ sum_by field_length fields = fields_long fields (λ k d h. is (suc k) d (omega arith)) in
       omega (arith, first, rest, sum_by-cons field_length field fields, length-append (field_bytes Audit (read_field rows field)) (flat_map (field_bytes Audit) (map (read_field rows) fields)))
 
 fields_are_bytes : (top : ℕ) (fields : List Field) → top * 432 ≤ 65535 → All (IsBounded top) fields → AreBytes (flat_map (field_bytes Audit) fields)
@@ -141,14 +138,14 @@ fields_are_bytes top (field ∷ fields) few small =
     both_bytes (field_bytes Audit field) (flat_map (field_bytes Audit) fields) (field_are_bytes top field few (small 0 field (omega arith))) (fields_are_bytes top fields few (λ k d h. small (suc k) d (omega arith)))
 
 -- the record of a front
-module _ (rows : Rows) (front : Front) (top : ℕ) (few : top * 432 ≤ 65535) (is : IsFront front) (audited : All IsAudited front.fields.items)
+module _ (rows : Rows) (front : Front) (top : ℕ) (few : top * 432 ≤ 65535) (is : IsFront front)
     (bounded : All (IsBounded top) (map (read_field rows.0) front.fields.items)) (letter : front.letter < 256) where
   unfoldable claim : List ℕ
   claim = reading_spelling Audit (read_front rows.0 front)
 
   long : length claim ≡ claim_length front
   unfolding claim reading_spelling read_front claim_length
-  long = omega (arith, fields_long rows.0 front.fields.items is.fields audited)
+  long = omega (arith, fields_long rows.0 front.fields.items is.fields)
 
   bytes : AreBytes claim
   unfolding claim reading_spelling read_front
@@ -158,17 +155,12 @@ module _ (rows : Rows) (front : Front) (top : ℕ) (few : top * 432 ≤ 65535) (
   unfolding claim read_front
   agrees = (
     long,
-    (agrees_exactly rows front claim is audited bytes long).1 (record {
+    (agrees_exactly rows front claim is bytes long).1 (record {
       claimed = map (read_field rows.0) front.fields.items;
-      right = rights rows.0 front.fields.items is.fields audited;
+      right = rights rows.0 front.fields.items is.fields;
       spelled = refl;
     }),
   )
-
--- a built field is audited, with values or without
-audited_at : (name : FieldName) (soft : Option (List ℤ)) → IsBuiltName name → IsAuditedAt name soft
-audited_at name None built = tt
-audited_at name (Some values) built = built
 
 -- the front of a slot, with the block that is complete, or none
 module _ (law : FieldsHaveSizes) (rows : List ℕ) (dir : Dir) (key : List Bool) (block : Option (List ℤ)) (soft : List ℤ) (size : length soft ≡ 510)
@@ -183,14 +175,10 @@ module _ (law : FieldsHaveSizes) (rows : List ℕ) (dir : Dir) (key : List Bool)
   unfolding field_heard
   place_formed place fit = record { soft = sized place fit }
 
-  place_audited : (place : Place) → FitsSpot dir place → IsAudited (field_heard dir key block soft place)
-  unfolding field_heard
-  place_audited place fit = audited_at place.name (values_at place) fit.built
-
   place_bounded : (place : Place) → FitsSpot dir place → IsBounded (nat_abs SOFT_MAX) (read_field rows (field_heard dir key block soft place))
   unfolding field_heard read_field
   place_bounded place fit =
-      reading_bounded_of (nat_abs SOFT_MAX) place.name rows (values_at place) fit.built (sized place fit)
+      reading_bounded_of (nat_abs SOFT_MAX) place.name rows (values_at place) (sized place fit)
       (values_within (nat_abs SOFT_MAX) place.name block (place_values dir key soft place) of_block (place_within (nat_abs SOFT_MAX) dir key soft place all))
 
   names : (places : List Place) → map (λ field. field.name) (map (field_heard dir key block soft) places) ≡ map (λ place. place.name) places
@@ -202,9 +190,6 @@ module _ (law : FieldsHaveSizes) (rows : List ℕ) (dir : Dir) (key : List Bool)
     row = rw (names places) are.row;
     fields = All-map IsFrontField (field_heard dir key block soft) places (All-weaker (FitsSpot dir) (λ place. IsFrontField (field_heard dir key block soft place)) place_formed places are.fit);
   }
-
-  all_audited : (letter : Letter) (places : List Place) → ArePlaces dir letter places → All IsAudited (map (field_heard dir key block soft) places)
-  all_audited letter places are = All-map IsAudited (field_heard dir key block soft) places (All-weaker (FitsSpot dir) (λ place. IsAudited (field_heard dir key block soft place)) place_audited places are.fit)
 
   all_bounded : (letter : Letter) (places : List Place) → ArePlaces dir letter places → All (IsBounded (nat_abs SOFT_MAX)) (map (read_field rows) (map (field_heard dir key block soft) places))
   all_bounded letter places are =
@@ -224,6 +209,5 @@ own_records_agree law settings history soft valid built earlier size all letter 
     let are : ArePlaces settings.dir heard places = are_places settings t soft valid built letter in
     agrees settings.rows (slot_front settings history soft) (nat_abs SOFT_MAX) (omega arith)
     (formed law settings.rows.0 settings.dir _ block soft size whole within all heard places are)
-    (all_audited law settings.rows.0 settings.dir _ block soft size whole within all heard places are)
     (all_bounded law settings.rows.0 settings.dir _ block soft size whole within all heard places are)
     (letter_small heard)

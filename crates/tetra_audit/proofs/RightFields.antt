@@ -16,7 +16,7 @@ use Rattle.tetra_settings.specs.declared.readings.Field.{Field}
 use Rattle.tetra_settings.specs.declared.types.Form.TheVariants.{Audit}
 use Rattle.tetra_audit.specs.Agreement.{IsCertificate, AreCertified, IsRight}
 use Rattle.tetra_audit.specs.Claims.{mark_part, metric_part, bits_part}
-use Rattle.tetra_audit.specs.Fields.{IsAudited, claimed_rows, field_length}
+use Rattle.tetra_audit.specs.Fields.{claimed_rows, field_length}
 use Rattle.tetra_audit.specs.Parts.{plain_why, part_why}
 use Rattle.tetra_audit.specs.Verdicts.{field_why, pad_fault, bits_fault, metric_fault, mark_fault}
 use Rattle.tetra_audit.specs.declared.verdict.FieldWhy.{FieldWhy}
@@ -139,8 +139,8 @@ module _ (rows : List ℕ) (field : FrontField) (claimed : Field) (right : IsRig
       let bits : bytes_for (length reading.bits) ≡ bytes_for (message_bits field.name) = ap bytes_for plain.bits in
       omega (arith, bytes, bits, plain.none)
 
-  pub right_length : IsFrontField field → IsAudited field → length (field_bytes Audit claimed) ≡ field_length field
-  right_length is audited = elim (plain_or_coded rows field is audited) [ inl plain ↦ plain_length plain | inr coded ↦ coded_length coded ]
+  pub right_length : IsFrontField field → length (field_bytes Audit claimed) ≡ field_length field
+  right_length is = elim (plain_or_coded rows field is) [ inl plain ↦ plain_length plain | inr coded ↦ coded_length coded ]
 
 -- the defined reading with these potentials
 with_potentials : List ℕ → FrontField → Option (List (List ℕ)) → Field
@@ -229,8 +229,8 @@ module _ (rows : List ℕ) (field : FrontField) (bytes : List ℕ) (small : (k :
         ∙ (ap (plain_why (field_reading rows field.name field.soft)) (reads.spells ∙ right_plain rows field reads.claimed reads.right plain) ∙ plain_passes (field_reading rows field.name field.soft))
 
   -- any field
-  pub field_agrees : IsFrontField field → IsAudited field → (field_why rows field bytes ≡ None) ↔ Reads rows field bytes
-  field_agrees is audited = elim (plain_or_coded rows field is audited) [
+  pub field_agrees : IsFrontField field → (field_why rows field bytes ≡ None) ↔ Reads rows field bytes
+  field_agrees is = elim (plain_or_coded rows field is) [
     | inl plain ↦ (plain_reads plain, reads_plain plain)
     | inr coded ↦ (coded_reads coded, reads_coded coded)
   ]

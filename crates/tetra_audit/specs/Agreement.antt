@@ -21,7 +21,7 @@ use Rattle.tetra_settings.specs.Validity.{IsValid}
 use Rattle.tetra_settings.specs.declared.readings.Field.{Field}
 use Rattle.tetra_settings.specs.declared.types.Form.TheVariants.{Audit}
 use Rattle.tetra_settings.specs.declared.types.Settings.{Settings}
-use Rattle.tetra_audit.specs.Fields.{IsAudited, claim_length}
+use Rattle.tetra_audit.specs.Fields.{claim_length}
 use Rattle.tetra_audit.specs.Verdicts.{slot_verdict}
 use Rattle.tetra_audit.specs.declared.verdict.SlotVerdict.TheVariants.{Agrees}
 
@@ -69,7 +69,7 @@ AreBytes bytes = (k : ℕ) → slice_index bytes k < 256
 abbrev pub AgreesExactly : Type 0
 AgreesExactly =
     (rows : Rows) (front : Front) (claim : List ℕ)
-    → IsFront front → All IsAudited front.fields.items → AreBytes claim → length claim ≡ claim_length front
+    → IsFront front → AreBytes claim → length claim ≡ claim_length front
     → (slot_verdict rows front claim ≡ Agrees) ↔ IsRightClaim rows.0 front claim
 
 -- the record that is defined for a slot, with certificates

@@ -2,19 +2,10 @@
 use Rattle.std.specs.Prelude.{ℕ, ◌+◌, ◌*◌, List, sum_by, None, Some, ℤ}
 use Rattle.std.specs.declared.option.Option.{Option}
 use Rattle.tetra_bits.specs.Packed.{bytes_for}
-use Rattle.tetra_session.specs.Built.{IsBuiltName}
 use Rattle.tetra_session.specs.declared.front.FrontField.{FrontField}
 use Rattle.tetra_session.specs.declared.front.Front.{Front}
 use Rattle.tetra_settings.specs.Readings.{message_bits, certificate_rows}
 use Rattle.tetra_settings.specs.declared.readings.FieldName.{FieldName}
-
--- a field whose reading is built, or which is not there yet
-abbrev pub IsAuditedAt : FieldName → Option (List ℤ) → Type 0
-IsAuditedAt name None = Unit {0}
-IsAuditedAt name (Some soft) = IsBuiltName name
-
-abbrev pub IsAudited : FrontField → Type 0
-IsAudited field = IsAuditedAt field.name field.soft
 
 -- how many rows of potentials a field claims
 abbrev pub claimed_rows : FieldName → Option (List ℤ) → ℕ

@@ -1,13 +1,12 @@
 // The audit of one field.
-ghost use Rattle.std.specs.Prelude.{◌≡◌, ◌≤◌, ◌+◌, ◌-◌, ◌*◌, ℕ, None, length};
+ghost use Rattle.std.specs.Prelude.{◌≡◌, ◌≤◌, ◌+◌, ◌-◌, ◌*◌, ℕ, Bool, List, None, length};
 ghost use Rattle.tetra_bits.specs.Packed.{bytes_for};
+ghost use Rattle.tetra_bits.specs.declared.reading.Reading.{Reading};
 ghost use Rattle.tetra_channels.specs.Fields.{access_reading};
 ghost use Rattle.tetra_parity.specs.Parity.{width};
 ghost use Rattle.tetra_session.specs.Fronts.{IsFrontField};
-ghost use Rattle.tetra_session.specs.Readers.{whole_speech_part};
-ghost use Rattle.tetra_speech.specs.Reading.{whole_reading};
-ghost use Rattle.tetra_audit.specs.Fields.{IsAudited, field_length};
-ghost use Rattle.tetra_audit.specs.Parts.{coded_why, part_why, plain_why, head_why};
+ghost use Rattle.tetra_audit.specs.Fields.{field_length};
+ghost use Rattle.tetra_audit.specs.Parts.{coded_why, part_why, plain_why, head_why, speech_part, IsSpeech};
 ghost use Rattle.tetra_audit.specs.Verdicts.{field_why};
 
 use crate::claims::read_table;
@@ -15,7 +14,7 @@ use crate::verdict::FieldWhy;
 use tetra_bits::{Bits, Mark, Potentials, Soft, pack, read_plain, unpack};
 use tetra_cert::{Verdict, check};
 use tetra_parity::{Parity, mark};
-use tetra_puncture::{P148, P292, Plan, SpeechWhole, TwoThirds};
+use tetra_puncture::{P148, P292, Plan, SpeechHalf, SpeechWhole, TwoThirds};
 use tetra_rm::{Rows, decode, message_bits};
 use tetra_session::FrontField;
 use tetra_settings::FieldName;
@@ -94,29 +93,44 @@ fn coded_fault<P: Plan>(
     head_fault(bytes, potentials.at(0, 0), mark(parity, &message))
 }
 
-/// The tests of a field of speech in a whole slot: its uncoded bits are compared with the signs of their values. The
-/// certificate is read into `potentials`.
-fn speech_fault(soft: &Soft, bytes: &[u8], potentials: &mut Potentials) -> Option<FieldWhy>
-    requires values { length soft.now ≡ 432 }
-    requires size { length bytes.now ≡ 5959 }
-    ensures { result ≡ part_why whole_speech_part soft.now (whole_reading soft.now) bytes.now }
+/// The tests of a field of speech in this many frames, one or two, with this parity and the plan `P`: its uncoded bits are
+/// compared with the signs of their values. The certificate is read into `potentials`.
+fn speech_fault<P: Plan>(
+    frames: usize,
+    parity: Parity,
+    soft: &Soft,
+    bytes: &[u8],
+    potentials: &mut Potentials,
+) -> Option<FieldWhy>
+    requires sound { P.IsSound }
+    requires some { 1 ≤ frames }
+    requires few { frames ≤ 2 }
+    requires steps { P.plan.steps ≡ 90 * frames + 4 }
+    requires sent { P.SENT ≡ 165 * frames }
+    requires parity { width parity ≤ 34 * frames }
+    requires values { length soft.now ≡ 216 * frames }
+    requires size { length bytes.now ≡ 3 + bytes_for (141 * frames) + 32 * (90 * frames + 5) }
+    ensures { (uncoded coded : List Bool → List Bool) (reading : Reading)
+        → IsSpeech frames parity P.plan uncoded coded soft.now reading
+        → result ≡ part_why (speech_part frames P.plan uncoded coded) soft.now reading bytes.now }
 {
-    let Ok(bits) = unpack(&bytes[3..39], 282) else {
+    let len = 141 * frames;
+    let behind = 3 + len.div_ceil(8);
+    let Ok(bits) = unpack(&bytes[3..behind], len) else {
         return Some(FieldWhy::Pad);
     };
-    if uncoded_part(&bits) != read_plain(&values(soft, 0, 102)) {
+    let uncoded = 51 * frames;
+    if uncoded_part(&bits) != read_plain(&values(soft, 0, uncoded)) {
         return Some(FieldWhy::Bits);
     }
     let message = trellis_part(&bits);
-    read_table(&bytes[39..], 185, potentials);
-    let coded = values(soft, 102, 330);
-    if let Verdict::Refused { step, state, rule } = check::<SpeechWhole>(
-        &coded, &message, potentials,
-    ) {
+    read_table(&bytes[behind..], P::STEPS + 1, potentials);
+    let coded = values(soft, uncoded, 165 * frames);
+    if let Verdict::Refused { step, state, rule } = check::<P>(&coded, &message, potentials) {
         return Some(FieldWhy::Cert { step, state, rule });
     }
-    let protected = part(&message, 112, 68);
-    head_fault(bytes, potentials.at(0, 0), mark(Parity::Eight, &protected))
+    let protected = part(&message, 56 * frames, 34 * frames);
+    head_fault(bytes, potentials.at(0, 0), mark(parity, &protected))
 }
 
 /// The first test of a field that fails on its bytes. The rows are those of the access code. A certificate is read
@@ -128,7 +142,6 @@ pub fn field_fault(
     potentials: &mut Potentials,
 ) -> Option<FieldWhy>
     requires field { IsFrontField field.now }
-    requires audited { IsAudited field.now }
     requires size { length bytes.now ≡ field_length field.now }
     ensures { result ≡ field_why rows.now.0 field.now bytes.now }
 {
@@ -152,7 +165,11 @@ pub fn field_fault(
         FieldName::D72 => plain_fault(&read_plain(soft), 0, Mark::Unchecked, bytes),
         FieldName::D48 => coded_fault::<P292>(none, soft, bytes, potentials),
         FieldName::D24 => coded_fault::<P148>(none, soft, bytes, potentials),
-        FieldName::Whole => speech_fault(soft, bytes, potentials),
-        FieldName::Single => unreachable!(),
+        FieldName::Whole => {
+            speech_fault::<SpeechWhole>(2, Parity::Eight, soft, bytes, potentials)
+        }
+        FieldName::Single => {
+            speech_fault::<SpeechHalf>(1, Parity::Four, soft, bytes, potentials)
+        }
     }
 }

@@ -1,8 +1,7 @@
 // The audit of a slot.
 ghost use Rattle.std.specs.Prelude.{◌≡◌, length};
-ghost use Rattle.std.specs.List.{All};
 ghost use Rattle.tetra_session.specs.Fronts.{IsFront};
-ghost use Rattle.tetra_audit.specs.Fields.{IsAudited, claim_length};
+ghost use Rattle.tetra_audit.specs.Fields.{claim_length};
 ghost use Rattle.tetra_audit.specs.Verdicts.{slot_verdict};
 
 use crate::fields::field_fault;
@@ -18,7 +17,6 @@ use tetra_session::Front;
 /// its mark. `rows` are those of the access code. This project's own.
 pub fn audit_slot(rows: &Rows, front: &Front, claim: &[u8]) -> SlotVerdict
     requires front { IsFront front.now }
-    requires audited { All IsAudited front.now.fields.items }
     requires size { length claim.now ≡ claim_length front.now }
     ensures { result ≡ slot_verdict rows.now front.now claim.now }
 {
@@ -33,7 +31,6 @@ pub fn audit_slot_with(
     claim: &[u8],
 ) -> SlotVerdict
     requires front { IsFront front.now }
-    requires audited { All IsAudited front.now.fields.items }
     requires size { length claim.now ≡ claim_length front.now }
     ensures { result ≡ slot_verdict rows.now front.now claim.now }
 {

@@ -1,5 +1,5 @@
 -- Slots with what is claimed for them, at the front of the input.
-use Rattle.std.proofs.Common.{◌≡◌, ℕ, ◌≤◌, List, [], ◌∷◌, ◌++◌, length, ap, sym, ◌∙◌, arith, length-append, append_assoc, append-nil, true, false, subst, ℤ, Bool, All, map, Option, None, Some}
+use Rattle.std.proofs.Common.{◌≡◌, ℕ, ◌≤◌, List, [], ◌∷◌, ◌++◌, length, ap, sym, ◌∙◌, arith, length-append, append_assoc, append-nil, true, false, Option}
 use Rattle.std.proofs.lemmas.List.{map-append, length-map}
 use Rattle.std.specs.declared.option.Option.{Option}
 use Rattle.std.specs.Io.KnownBytes.{Consumes}
@@ -10,18 +10,9 @@ use Rattle.tetra_engine.specs.declared.intake.Intake.{Intake}
 use Rattle.tetra_engine.specs.declared.work.Stop.{Stop}
 use Rattle.tetra_audit.specs.declared.verdict.SlotVerdict.{SlotVerdict}
 use Rattle.tetra_audit.specs.declared.verdict.SlotVerdict.TheVariants.{Agrees, Kind, Field}
-use Rattle.std.proofs.lemmas.List.Elements.{All-map, All-weaker}
-use Rattle.tetra_settings.specs.Validity.{IsValid}
-use Rattle.tetra_settings.specs.declared.types.Dir.{Dir}
-use Rattle.tetra_session.specs.Built.{IsBuilt, IsBuiltLetter, IsBuiltName}
-use Rattle.tetra_session.specs.Heard.{slot_front, slot_letter, place_values, block_heard, values_of, field_heard, fields_heard}
-use Rattle.tetra_session.specs.Spots.{FitsSpot, ArePlaces}
-use Rattle.tetra_session.specs.declared.spots.Place.{Place}
-use Rattle.tetra_session.specs.lemmas.Places.{are_places}
+use Rattle.tetra_session.specs.Heard.{slot_front}
 use Rattle.tetra_session.specs.declared.front.Front.{Front}
-use Rattle.tetra_settings.specs.declared.slots.Letter.{Letter}
-use Rattle.tetra_settings.specs.declared.readings.FieldName.{FieldName}
-use Rattle.tetra_audit.specs.Fields.{IsAuditedAt, IsAudited, claim_length}
+use Rattle.tetra_audit.specs.Fields.{claim_length}
 use Rattle.tetra_engine.specs.Framing.{is_built_slot}
 use Rattle.tetra_engine.specs.Auditing.{Claimed, auditing, slots_of, front_at, refused_by, refused_slots, verdict_at}
 use Rattle.tetra_engine.specs.Refusals.{Counts}
@@ -117,28 +108,3 @@ refused_few settings before (x ∷ xs) =
 pub counts_number : (r : Refusals) (slots : List ℕ) → Counts r slots → r.count ≡ length slots
 counts_number r [] counts = counts
 counts_number r (slot ∷ slots) counts = counts.1
-
--- a built field can be audited, with values or without
-audited_at : (name : FieldName) (soft : Option (List ℤ)) → IsBuiltName name → IsAuditedAt name soft
-audited_at name None built = tt
-audited_at name (Some values) built = built
-
-module _ (dir : Dir) (key : List Bool) (block : Option (List ℤ)) (soft : List ℤ) where
-  place_audited : (place : Place) → FitsSpot dir place → IsAudited (field_heard dir key block soft place)
-  unfolding field_heard
-  place_audited place fit = audited_at place.name (values_of place.name block (place_values dir key soft place)) fit.built
-
-  places_audited : (letter : Letter) (places : List Place) → ArePlaces dir letter places → All IsAudited (map (field_heard dir key block soft) places)
-  places_audited letter places are =
-      All-map IsAudited (field_heard dir key block soft) places (All-weaker (FitsSpot dir) (λ place. IsAudited (field_heard dir key block soft place)) place_audited places are.fit)
-
-heard_audited : (settings : Settings) (history : List (List ℤ)) (soft : List ℤ) → IsValid settings → IsBuilt settings → IsBuiltLetter (slot_letter settings (length history) soft)
-    → All IsAudited (slot_front settings history soft).fields.items
-unfolding slot_front fields_heard
-heard_audited settings history soft valid built letter =
-    places_audited settings.dir _ (block_heard settings history soft) soft _ _ (are_places settings (length history) soft valid built letter)
-
--- the fields of a front can be audited
-pub front_audited : (settings : Settings) (history : List (List ℤ)) (soft : List ℤ) (front : Front) → IsValid settings → IsBuilt settings → IsBuiltLetter (slot_letter settings (length history) soft)
-    → front ≡ slot_front settings history soft → All IsAudited front.fields.items
-front_audited settings history soft front valid built letter is = subst (λ f. All IsAudited f.fields.items) (sym is) (heard_audited settings history soft valid built letter)

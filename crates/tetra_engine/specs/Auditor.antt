@@ -1,8 +1,8 @@
 -- What an auditor stands for.
-use Rattle.std.specs.Prelude.{◌≡◌, ◌<◌, ◌≤◌, List, [], ◌∷◌, ◌++◌, length, take, All}
+use Rattle.std.specs.Prelude.{◌≡◌, ◌<◌, ◌≤◌, List, [], ◌∷◌, ◌++◌, length, take}
 use Rattle.tetra_engine.specs.declared.auditor.Auditor.{Auditor}
 use Rattle.tetra_session.specs.Fronts.{IsFront}
-use Rattle.tetra_audit.specs.Fields.{IsAudited, claim_length}
+use Rattle.tetra_audit.specs.Fields.{claim_length}
 use Rattle.tetra_engine.specs.Auditing.{Claimed, slots_of, front_at, refused_slots}
 use Rattle.tetra_engine.specs.Intake.{IntakeStands}
 use Rattle.tetra_engine.specs.Refusals.{Counts}
@@ -21,7 +21,6 @@ pub record AuditorHolds (a : Auditor) (before : List Claimed) (input : Claimed) 
   pub slot : a.slot ≡ length before
   pub front : a.front ≡ front_at a.intake.settings before input.0
   pub formed : IsFront a.front
-  pub audited : All IsAudited a.front.fields.items
   pub size : a.len ≡ claim_length a.front
   pub within : a.len ≤ 18743
   pub claim : take a.len a.claim ≡ input.1

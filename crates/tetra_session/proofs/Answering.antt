@@ -64,14 +64,14 @@ module _ (law : FieldsHaveSizes) (settings : Settings) (key : List Bool) (block 
   read_formed : (place : Place) → FitsSpot settings.dir place → IsField (field_of_place settings key block soft place)
   unfolding field_of_place field_heard read_field
   read_formed place fit =
-      reading_formed_of place.name settings.rows.0 (values_of place.name block (place_values settings.dir key soft place)) fit.built
+      reading_formed_of place.name settings.rows.0 (values_of place.name block (place_values settings.dir key soft place))
       (values_size place.name block (place_values settings.dir key soft place) whole (place_size law settings.dir key soft place fit size))
 
   read_bounded : (top : ℕ) → IfSome block (AllWithin top) → AllWithin top soft → (place : Place) → FitsSpot settings.dir place
       → IsBounded top (field_of_place settings key block soft place)
   unfolding field_of_place field_heard read_field
   read_bounded top of_block of_soft place fit =
-      reading_bounded_of top place.name settings.rows.0 (values_of place.name block (place_values settings.dir key soft place)) fit.built
+      reading_bounded_of top place.name settings.rows.0 (values_of place.name block (place_values settings.dir key soft place))
       (values_size place.name block (place_values settings.dir key soft place) whole (place_size law settings.dir key soft place fit size))
       (values_within top place.name block (place_values settings.dir key soft place) of_block (place_within top settings.dir key soft place of_soft))
 

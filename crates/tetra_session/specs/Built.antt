@@ -4,8 +4,6 @@ use Rattle.std.specs.List.{list_all}
 use Rattle.tetra_settings.specs.declared.types.Mode.{Mode}
 use Rattle.tetra_settings.specs.declared.types.Mode.TheVariants.{Sig, Cb, D72, D48, D24, Speech}
 use Rattle.tetra_settings.specs.declared.types.Settings.{Settings}
-use Rattle.tetra_settings.specs.declared.readings.FieldName.{FieldName}
-use Rattle.tetra_settings.specs.declared.readings.FieldName.TheVariants.{Aach, Sync, Half, Hu, Full, D72 as D72Field, D48 as D48Field, D24 as D24Field, Whole, Single}
 
 abbrev pub is_built_mode : Mode → Bool
 is_built_mode Sig = true
@@ -28,16 +26,3 @@ is_built_letter byte = byte == 70 || byte == 72 || byte == 83 || byte == 84 || b
 
 abbrev pub IsBuiltLetter : ℕ → Type 0
 IsBuiltLetter byte = IsTrue (is_built_letter byte)
-
--- the fields that are built: those of these letters in these timeslots
-abbrev pub IsBuiltName : FieldName → Type 0
-IsBuiltName Aach = Unit {0}
-IsBuiltName Sync = Unit {0}
-IsBuiltName Half = Unit {0}
-IsBuiltName Hu = Unit {0}
-IsBuiltName Full = Unit {0}
-IsBuiltName D72Field = Unit {0}
-IsBuiltName D48Field = Unit {0}
-IsBuiltName D24Field = Unit {0}
-IsBuiltName Whole = Unit {0}
-IsBuiltName Single = ⊥

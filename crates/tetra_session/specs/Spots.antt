@@ -11,7 +11,6 @@ use Rattle.tetra_settings.specs.declared.slots.Letter.{Letter}
 use Rattle.tetra_settings.specs.declared.slots.Letter.TheVariants.{F, H, S, T, P, Q, C}
 use Rattle.tetra_settings.specs.declared.readings.FieldName.{FieldName}
 use Rattle.tetra_settings.specs.declared.readings.FieldName.TheVariants.{Aach, Sync, Half, Hu, Full, Whole as WholeSpeech, Single}
-use Rattle.tetra_session.specs.Built.{IsBuiltName}
 use Rattle.tetra_session.specs.declared.spots.Spot.{Spot}
 use Rattle.tetra_session.specs.declared.spots.Spot.TheVariants.{Access, SyncAccess, Sync as SyncSpot, FirstBlock, SecondBlock, WholeSlot, FirstSubslot, SecondSubslot}
 use Rattle.tetra_session.specs.declared.spots.Place.{Place}
@@ -91,9 +90,8 @@ HasSpot dir WholeSlot = Unit {0}
 HasSpot dir FirstSubslot = is_downlink dir ≡ false
 HasSpot dir SecondSubslot = is_downlink dir ≡ false
 
--- the field of a place is built, and a slot of the direction has its spot, with as many values as the field has
+-- a slot of the direction has the spot of a place, with as many values as its field has
 pub record FitsSpot (dir : Dir) (place : Place) : Type 0 where
-  pub built : IsBuiltName place.name
   pub here : HasSpot dir place.spot
   pub size : spot_size place.spot ≡ (sizes place.name).values
 

@@ -5,7 +5,6 @@ ghost use Rattle.tetra_bits.specs.Soft.{AllSoft};
 ghost use Rattle.tetra_diag.specs.Diagonal.{gathered};
 ghost use Rattle.tetra_scramble.specs.Key.{zero_key_bits};
 ghost use Rattle.tetra_settings.specs.Readings.{sizes};
-ghost use Rattle.tetra_session.specs.Built.{IsBuiltName};
 ghost use Rattle.tetra_session.specs.Heard.{GatherLaneStands, allowed_in, letter_by, place_values, word_heard, is_spread, field_heard, field_of_place};
 ghost use Rattle.tetra_session.specs.Readers.{reader, read_by, field_reading};
 ghost use Rattle.tetra_session.specs.Spots.{FitsSpot};
@@ -150,7 +149,6 @@ pub fn gather(
 /// What is read of the values of a field, written over a reading that is there, whose potentials serve again.
 pub fn read(name: FieldName, rows: &Rows, soft: &Soft, reading: &mut Reading)
     requires size { length soft.now ≡ (sizes name).values }
-    requires built { IsBuiltName name }
     ensures { reading.new ≡ read_by (reader name) rows.now.0 soft.now }
 {
     match name {
@@ -170,7 +168,6 @@ pub fn read(name: FieldName, rows: &Rows, soft: &Soft, reading: &mut Reading)
 /// The reading of a block of protected data that is complete, or that is not yet, written over a reading that is there.
 fn read_block(name: FieldName, rows: &Rows, block: &Option<Soft>, reading: &mut Reading)
     requires size { IfSome block.now (λ values. length values ≡ (sizes name).values) }
-    requires built { IsBuiltName name }
     ensures { reading.new ≡ field_reading rows.now.0 name block.now }
 {
     match block {

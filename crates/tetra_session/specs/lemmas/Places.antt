@@ -36,40 +36,40 @@ three : (dir : Dir) (a b c : Place) → FitsSpot dir a → FitsSpot dir b → Fi
 three dir a b c fa fb fc = All-cons (FitsSpot dir) a (b ∷ c ∷ []) fa (two dir b c fb fc)
 
 access : FitsSpot Dl (place Aach Access)
-access = record { built = tt; here = refl; size = refl }
+access = record { here = refl; size = refl }
 
 access_sync : FitsSpot Dl (place Aach SyncAccess)
-access_sync = record { built = tt; here = refl; size = refl }
+access_sync = record { here = refl; size = refl }
 
 sync : FitsSpot Dl (place Sync SyncSpot)
-sync = record { built = tt; here = refl; size = refl }
+sync = record { here = refl; size = refl }
 
 first : (dir : Dir) → FitsSpot dir (place Half FirstBlock)
-first dir = record { built = tt; here = tt; size = refl }
+first dir = record { here = tt; size = refl }
 
 second : (dir : Dir) → FitsSpot dir (place Half SecondBlock)
-second dir = record { built = tt; here = tt; size = refl }
+second dir = record { here = tt; size = refl }
 
 full : (dir : Dir) → FitsSpot dir (place Full WholeSlot)
-full dir = record { built = tt; here = tt; size = refl }
+full dir = record { here = tt; size = refl }
 
 raw : (dir : Dir) → FitsSpot dir (place D72Field WholeSlot)
-raw dir = record { built = tt; here = tt; size = refl }
+raw dir = record { here = tt; size = refl }
 
 data_48 : (dir : Dir) → FitsSpot dir (place D48Field WholeSlot)
-data_48 dir = record { built = tt; here = tt; size = refl }
+data_48 dir = record { here = tt; size = refl }
 
 data_24 : (dir : Dir) → FitsSpot dir (place D24Field WholeSlot)
-data_24 dir = record { built = tt; here = tt; size = refl }
+data_24 dir = record { here = tt; size = refl }
 
 speech : (dir : Dir) → FitsSpot dir (place Whole WholeSlot)
-speech dir = record { built = tt; here = tt; size = refl }
+speech dir = record { here = tt; size = refl }
 
 first_sub : FitsSpot Ul (place Hu FirstSubslot)
-first_sub = record { built = tt; here = refl; size = refl }
+first_sub = record { here = refl; size = refl }
 
 second_sub : FitsSpot Ul (place Hu SecondSubslot)
-second_sub = record { built = tt; here = refl; size = refl }
+second_sub = record { here = refl; size = refl }
 
 -- signalling on the downlink, by its training sequence
 signalling_down : (mode : Mode) (train : Train) → ArePlaces Dl (letter_by Signalling train) (places_of Dl (letter_by Signalling train) mode)

@@ -30,7 +30,6 @@ use Rattle.tetra_settings.specs.declared.types.Mode.{Mode}
 use Rattle.tetra_settings.specs.declared.types.Settings.{Settings}
 use Rattle.tetra_settings.specs.declared.readings.FieldName.{FieldName}
 use Rattle.tetra_settings.specs.declared.readings.FieldName.TheVariants.{Aach, Sync, Half, Hu, Full, D72, D48, D24, Whole, Single}
-use Rattle.tetra_session.specs.Built.{IsBuiltName}
 use Rattle.tetra_session.specs.Heard.{key_for, place_values, word_heard, words_heard, block_heard, is_spread, values_of}
 use Rattle.tetra_session.specs.Readers.{Reader, Access, Plain, Trellis, WholeSpeech, HalfSpeech, reader, heard_by}
 use Rattle.tetra_session.specs.Spots.{is_downlink, place, spot_values, spot_size, FitsSpot}
@@ -100,26 +99,26 @@ spot_length law dir WholeSlot soft h =
 spot_length law dir FirstSubslot soft h = (law soft h).subslot_1
 spot_length law dir SecondSubslot soft h = (law soft h).subslot_2
 
--- after the key a built field has as many values as the table of fields says
-pub heard_size : (name : FieldName) (key : List Bool) (values : List ℤ) → IsBuiltName name → length values ≡ (sizes name).values
+-- after the key a field has as many values as the table of fields says
+pub heard_size : (name : FieldName) (key : List Bool) (values : List ℤ) → length values ≡ (sizes name).values
     → length (heard_by (reader name) key values) ≡ (sizes name).values
-unfolding front_values whole_front
-heard_size Aach key values built h = length-turned values key 1 ∙ h
-heard_size Sync key values built h = length-taken (pos 0) 120 (type4_place bsch) (turned values key 1)
-heard_size Half key values built h = length-taken (pos 0) 216 (type4_place half) (turned values key 1)
-heard_size Hu key values built h = length-taken (pos 0) 168 (type4_place hu) (turned values key 1)
-heard_size Full key values built h = length-taken (pos 0) 432 (type4_place full) (turned values key 1)
-heard_size D72 key values built h = length-turned values key 1 ∙ h
-heard_size D48 key values built h = length-taken (pos 0) 432 (type4_place data48) (turned values key 1)
-heard_size D24 key values built h = length-taken (pos 0) 432 (type4_place data24) (turned values key 1)
-heard_size Whole key values built h = length-taken (pos 0) 432 (matrix_place 24 18) (turned values key 1)
-heard_size Single key values built h = absurd built
+unfolding front_values whole_front half_front
+heard_size Aach key values h = length-turned values key 1 ∙ h
+heard_size Sync key values h = length-taken (pos 0) 120 (type4_place bsch) (turned values key 1)
+heard_size Half key values h = length-taken (pos 0) 216 (type4_place half) (turned values key 1)
+heard_size Hu key values h = length-taken (pos 0) 168 (type4_place hu) (turned values key 1)
+heard_size Full key values h = length-taken (pos 0) 432 (type4_place full) (turned values key 1)
+heard_size D72 key values h = length-turned values key 1 ∙ h
+heard_size D48 key values h = length-taken (pos 0) 432 (type4_place data48) (turned values key 1)
+heard_size D24 key values h = length-taken (pos 0) 432 (type4_place data24) (turned values key 1)
+heard_size Whole key values h = length-taken (pos 0) 432 (matrix_place 24 18) (turned values key 1)
+heard_size Single key values h = length-taken (pos 0) 216 (matrix_place 24 9) (turned values key 1)
 
 pub place_size : FieldsHaveSizes → (dir : Dir) (key : List Bool) (soft : List ℤ) (place : Place) → FitsSpot dir place → length soft ≡ 510
     → length (place_values dir key soft place) ≡ (sizes place.name).values
 unfolding place_values
 place_size law dir key soft place fit h =
-    heard_size place.name (key_for key place.name) (spot_values dir place.spot soft) fit.built (spot_length law dir place.spot soft h ∙ fit.size)
+    heard_size place.name (key_for key place.name) (spot_values dir place.spot soft) (spot_length law dir place.spot soft h ∙ fit.size)
 
 -- the values of a field are those at its place, or of protected data those of a block
 pub values_size : (name : FieldName) (block : Option (List ℤ)) (values : List ℤ) → IfSome block (λ v. length v ≡ 432) → length values ≡ (sizes name).values

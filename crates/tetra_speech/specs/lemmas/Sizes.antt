@@ -1,7 +1,7 @@
 -- How many bits there are in what is read.
 use Rattle.std.proofs.Common.{◌≡◌, ◌++◌, Bool, List, length, take, drop, length-append, length-drop, arith}
 use Rattle.tetra_speech.specs.Classes.{class_1, class_2, bits_at, frame_of}
-use Rattle.tetra_speech.specs.Frames.{alternated, whole_frame, whole_bits, whole_coded, half_bits}
+use Rattle.tetra_speech.specs.Frames.{alternated, whole_frame, whole_bits, whole_coded, half_bits, half_coded}
 use Rattle.tetra_speech.specs.lemmas.Sorted.{length-frame_of, length-bits_at}
 use Rattle.tetra_speech.specs.lemmas.Strands.{length-alternated}
 use Rattle.tetra_speech.specs.declared.tables.Classes.{Classes}
@@ -39,3 +39,12 @@ whole_coded_size bits size =
     let h1 : length one ≡ 112 = omega (arith, length-alternated (bits_at class_1 a) (bits_at class_1 b), l1) in
     let h2 : length two ≡ 60 = omega (arith, length-alternated (bits_at class_2 a) (bits_at class_2 b), l2) in
     omega (arith, length-append (one ++ two) (drop 274 bits), length-append one two, length-drop 274 bits, h1, h2, size)
+
+pub half_coded_size : (bits : List Bool) → length bits ≡ 141 → length (half_coded bits) ≡ 90
+unfolding half_coded
+half_coded_size bits size =
+    let one = bits_at class_1 (take 137 bits) in
+    let two = bits_at class_2 (take 137 bits) in
+    let h1 : length one ≡ 56 = length-bits_at class_1 (take 137 bits) in
+    let h2 : length two ≡ 30 = length-bits_at class_2 (take 137 bits) in
+    omega (arith, length-append (one ++ two) (drop 137 bits), length-append one two, length-drop 137 bits, h1, h2, size)

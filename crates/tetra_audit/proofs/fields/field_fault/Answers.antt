@@ -6,10 +6,12 @@ use Rattle.tetra_session.specs.Readers.{reader}
 use Rattle.tetra_settings.specs.Readings.{sizes, message_bits}
 use Rattle.tetra_settings.specs.declared.readings.FieldName.{FieldName}
 use Rattle.tetra_settings.specs.declared.readings.FieldSizes.{FieldSizes}
-use Rattle.tetra_settings.specs.declared.readings.FieldName.TheVariants.{Aach, Sync, Half, Hu, Full, D72, D48, D24, Whole}
+use Rattle.tetra_settings.specs.declared.readings.FieldName.TheVariants.{Aach, Sync, Half, Hu, Full, D72, D48, D24, Whole, Single}
+use Rattle.tetra_speech.specs.Frames.{whole_uncoded, whole_coded, half_uncoded, half_coded}
+use Rattle.tetra_speech.specs.Reading.{whole_reading, half_reading}
 use Rattle.tetra_audit.specs.Parts.{plain_why}
-use Rattle.tetra_audit.proofs.FieldCases.{length_there, length_not_yet, why_coded, why_access, why_raw, why_not_yet, why_speech, values_there}
-use Rattle.tetra_audit.proofs.Codes.{length-best_plain}
+use Rattle.tetra_audit.proofs.FieldCases.{length_there, length_not_yet, why_coded, why_access, why_raw, why_not_yet, why_whole, why_single, values_there}
+use Rattle.tetra_audit.proofs.Codes.{length-best_plain, whole_is_speech, half_is_speech}
 use Rattle.tetra_audit.proofs.fields.field_fault.Goals as goal
 
 pub returns-in-Aach : goal.returns-in-Aach
@@ -34,7 +36,16 @@ pub returns-in-D24 : goal.returns-in-D24
 returns-in-D24 c = c.coded_fault-in-D24.ensures 103 ∙ why_coded c.args.rows.now.0 c.args.field.now c.in-Some.soft data24 c.args.bytes.now (ap reader c.in-D24.is) c.in-Some.is
 
 pub returns-in-Whole : goal.returns-in-Whole
-returns-in-Whole c = c.speech_fault.ensures ∙ why_speech c.args.rows.now.0 c.args.field.now c.in-Some.soft c.args.bytes.now c.in-Whole.is c.in-Some.is
+returns-in-Whole c =
+    let size = values_there c.args.field.now c.in-Some.soft c.in-Some.is c.requires.field ∙ ap (λ (name : FieldName). (sizes name).values) c.in-Whole.is in
+    c.speech_fault.ensures whole_uncoded whole_coded (whole_reading c.in-Some.soft) (whole_is_speech c.in-Some.soft size)
+    ∙ why_whole c.args.rows.now.0 c.args.field.now c.in-Some.soft c.args.bytes.now c.in-Whole.is c.in-Some.is
+
+pub returns-in-Single : goal.returns-in-Single
+returns-in-Single c =
+    let size = values_there c.args.field.now c.in-Some.soft c.in-Some.is c.requires.field ∙ ap (λ (name : FieldName). (sizes name).values) c.in-Single.is in
+    c.speech_fault-in-Single.ensures half_uncoded half_coded (half_reading c.in-Some.soft) (half_is_speech c.in-Some.soft size)
+    ∙ why_single c.args.rows.now.0 c.args.field.now c.in-Some.soft c.args.bytes.now c.in-Single.is c.in-Some.is
 
 pub plain_fault-requires : goal.plain_fault-requires
 plain_fault-requires c =
@@ -72,6 +83,9 @@ coded_fault-requires-in-D24-clause-size c = c.requires.size ∙ length_there c.a
 
 pub speech_fault-requires-clause-size : goal.speech_fault-requires-clause-size
 speech_fault-requires-clause-size c = c.requires.size ∙ length_there c.args.field.now Whole c.in-Some.soft c.in-Whole.is c.in-Some.is
+
+pub speech_fault-requires-in-Single-clause-size : goal.speech_fault-requires-in-Single-clause-size
+speech_fault-requires-in-Single-clause-size c = c.requires.size ∙ length_there c.args.field.now Single c.in-Some.soft c.in-Single.is c.in-Some.is
 
 pub plain_fault-requires-in-D72 : goal.plain_fault-requires-in-D72
 plain_fault-requires-in-D72 c =

@@ -18,3 +18,8 @@ pub whole_front_into-requires : goal.whole_front_into-requires
 whole_front_into-requires c =
     ap length c.flip_soft.ensures ∙ length-turned c.spot_into.new.values c.args.keys.now.colour _
     ∙ c.spot_into.ensures.size ∙ c.requires.place.size ∙ ap (λ (name : FieldName). (sizes name).values) c.in-Whole.is
+
+pub half_front_into-requires : goal.half_front_into-requires
+half_front_into-requires c =
+    ap length c.flip_soft-in-Single.ensures ∙ length-turned c.spot_into.new.values c.args.keys.now.colour _
+    ∙ c.spot_into.ensures.size ∙ c.requires.place.size ∙ ap (λ (name : FieldName). (sizes name).values) c.in-Single.is

@@ -1,14 +1,13 @@
 use Rattle.std.proofs.Common.{rules, arith, ◌≡◌, ◌∙◌, ap, sym, subst, length, ◌++◌, ◌∷◌, []}
 use Rattle.std.proofs.KnownBytes.{Consumes-trans}
 use Rattle.tetra_io.specs.Filling.{TakesFewer}
-use Rattle.tetra_session.specs.Built.{IsBuiltLetter}
-use Rattle.tetra_session.specs.Heard.{ReceiverStands, slot_letter}
+use Rattle.tetra_session.specs.Heard.{ReceiverStands}
 use Rattle.tetra_engine.specs.Auditing.{auditing, slots_of, front_at, refused_slots}
 use Rattle.tetra_engine.specs.Intake.{IntakeStands}
 use Rattle.tetra_engine.specs.Refusals.{Counts}
 use Rattle.tetra_engine.proofs.Fronts.{ended_behind, fault_behind}
 use Rattle.tetra_engine.proofs.Framed.{take_front}
-use Rattle.tetra_engine.proofs.Audited.{auditing_stopped, slot_at, short_claim, front_audited, refused_few, counts_number}
+use Rattle.tetra_engine.proofs.Audited.{auditing_stopped, slot_at, short_claim, refused_few, counts_number}
 use Rattle.tetra_engine.proofs.auditor.AuditorWork.read.Goals as goal
 
 pub returns-in-Err-clause-gives : goal.returns-in-Err-clause-gives
@@ -44,7 +43,6 @@ returns-in-Whole-clause-gives g c xs stands slot =
     let at = slot_at settings xs c.next.new.self c.front_into.new.front c.claim_len-self.result same holds heard c.claim_len-self.ensures.length in
     let taken = c.front_into.ensures.stands _ (slots_of xs) next.receiver in
     let size : length c.fill.new.buf ≡ c.claim_len-self.result = search rules in
-    let letter = subst (λ v. IsBuiltLetter (slot_letter c.next.new.self.settings (length (slots_of xs)) v)) (sym holds.values) holds.built in
     let few = refused_few settings [] xs in
     let count = counts_number c.args.self.now.refusals _ stands.refusals in (
       (c.next.new.self.bytes, c.fill.new.buf),
@@ -55,7 +53,6 @@ returns-in-Whole-clause-gives g c xs stands slot =
         slot = slot;
         front = at.front_is ∙ ap (λ s. front_at s xs c.next.new.self.bytes) (sym same);
         formed = c.front_into.ensures.well_formed;
-        audited = front_audited c.next.new.self.settings (slots_of xs) c.next.new.self.soft c.front_into.new.front next.valid next.built letter heard;
         size = c.claim_len-self.ensures.length;
         within = c.claim_len-self.ensures.most;
         claim = take_front c.claim_len-self.result c.fill.new.buf _ size;

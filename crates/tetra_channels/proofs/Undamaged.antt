@@ -11,7 +11,7 @@ use Rattle.tetra_interleave.specs.Block.{IsBlock, block_place}
 use Rattle.tetra_interleave.specs.Laws.{StayUndamaged, BlocksAreOneToOne}
 use Rattle.tetra_parity.specs.Marks.{BlocksAreGood}
 use Rattle.tetra_parity.specs.Parity.{width}
-use Rattle.tetra_puncture.specs.Plan.{IsMessage, WordsDiffer, word}
+use Rattle.tetra_puncture.specs.Plan.{IsMessage, WordsDiffer}
 use Rattle.tetra_puncture.specs.lemmas.Undamaged.{length-word, undamaged_free, undamaged_is_best}
 use Rattle.tetra_rm.specs.Code.{access_word, UndamagedArrives}
 use Rattle.tetra_scramble.specs.Flips.{flipped, turned, FlippedBack, StaysUndamaged}

@@ -7,15 +7,15 @@ ghost use Rattle.tetra_puncture.specs.Best.{IsFirstLeast};
 ghost use Rattle.tetra_scramble.specs.Flips.{flipped, turned};
 ghost use Rattle.tetra_channels.specs.Channels.{IsChannel, coded, parity_of, type3_bits, type5_bits, word_bits, front_values};
 ghost use Rattle.tetra_channels.specs.Fields.{coded_reading, IsSized, IsBoundedBy};
-ghost use Rattle.tetra_channels.specs.Laws.{UndamagedIsRead, UndamagedWordArrives, UndamagedWordIsRead};
+ghost use Rattle.tetra_channels.specs.Laws.{UndamagedIsRead, UndamagedWordArrives, UndamagedWordIsRead, NoneWrongWordArrives, NoneWrongWordIsRead};
 
 use crate::message::parity_of;
 use std::marker::PhantomData;
 use tetra_bits::{Bits, Mark, Potentials, Reading, Soft};
-use tetra_interleave::{Block, blocks_are_one_to_one, stay_undamaged};
+use tetra_interleave::{Block, blocks_are_one_to_one, stay_none_wrong, stay_undamaged};
 use tetra_parity::{blocks_are_good, mark, with_parity};
 use tetra_puncture::{P148, P292, Plan, TwoThirds, keep};
-use tetra_scramble::{Key, flip_bits, flip_soft, flipped_back, stays_undamaged};
+use tetra_scramble::{Key, flip_bits, flip_soft, flipped_back, stays_none_wrong, stays_undamaged};
 use tetra_trellis::solve_into;
 
 /// A coded channel (EN 300 392-2 clause 8): `PAR` parity bits, 16 or none, the plan `P` of its code,
@@ -175,6 +175,25 @@ impl<const PAR: usize, const K3: usize, const A: usize, const INV: usize, P: Pla
         flipped_back();
         stays_undamaged();
         stay_undamaged();
+        blocks_are_one_to_one();
+    }
+
+    /// Values none of which has the wrong sign for the type-3 bits of a block, though some may be 0, are read as that
+    /// block or as one that stands before it in bit order, with metric 0.
+    pub fn none_wrong_word_is_read()
+        requires { IsChannel P.IsSound PAR K3 A INV P.plan }
+        ensures { NoneWrongWordIsRead (coded PAR A P.plan) }
+    {}
+
+    /// Values none of which has the wrong sign for a word as it is sent have no wrong sign for the word, in the order of
+    /// type-3 bits.
+    pub fn none_wrong_word_arrives()
+        requires { IsChannel P.IsSound PAR K3 A INV P.plan }
+        ensures { NoneWrongWordArrives (coded PAR A P.plan) }
+    {
+        flipped_back();
+        stays_none_wrong();
+        stay_none_wrong();
         blocks_are_one_to_one();
     }
 }

@@ -2,10 +2,10 @@
 ghost use Rattle.std.specs.Prelude.{◌≡◌, length};
 ghost use Rattle.tetra_channels.specs.Channels.{raw_bits};
 ghost use Rattle.tetra_channels.specs.Fields.{raw_reading};
-ghost use Rattle.tetra_channels.specs.Laws.{UndamagedRawIsRead};
+ghost use Rattle.tetra_channels.specs.Laws.{UndamagedRawIsRead, NoneWrongRawIsRead};
 
 use tetra_bits::{Bits, Mark, Reading, Soft, read_plain};
-use tetra_scramble::{Key, flip_bits, flipped_back, stays_undamaged};
+use tetra_scramble::{Key, flip_bits, flipped_back, stays_none_wrong, stays_undamaged};
 
 /// TCH/7.2: a block of 432 bits that is only scrambled (EN 300 392-2 clause 8).
 pub struct Raw72;
@@ -55,5 +55,14 @@ impl Raw72 {
     {
         flipped_back();
         stays_undamaged();
+    }
+
+    /// Values none of which has the wrong sign for the type-5 bits of a block, though some may be 0, are read as that
+    /// block or as one that stands before it in bit order.
+    pub fn none_wrong_is_read()
+        ensures { NoneWrongRawIsRead }
+    {
+        flipped_back();
+        stays_none_wrong();
     }
 }

@@ -1,15 +1,8 @@
 -- Gathering undoes spreading: what holds between bits and values at each place of the last n slot words holds at each
 -- place of the block that they complete.
-use Rattle.std.specs.Prelude.{ℕ, ◌+◌, ◌<◌, ◌≤◌, ◌≡◌, ◌⊎◌, Bool, ℤ, pos, List, [], length, take, slice_index_or, All, IfSome}
-use Rattle.tetra_bits.specs.Order.{bit_at}
-use Rattle.tetra_bits.specs.Soft.{value_at}
-use Rattle.tetra_bits.specs.Undamaged.{HasSign, IsUndamaged}
+use Rattle.std.specs.Prelude.{ℕ, ◌+◌, ◌<◌, ◌≤◌, ◌≡◌, Bool, ℤ, List, [], length, take, slice_index_or, All, IfSome}
+use Rattle.tetra_bits.specs.Undamaged.{IsUndamaged, IsNoneWrong}
 use Rattle.tetra_diag.specs.Diagonal.{IsDepth, spread_word, gathered, complete_block}
-
--- values that stand to bits place by place as R says
-pub record Matches (R : Bool → ℤ → Type 0) (bits : List Bool) (values : List ℤ) : Type 0 where
-  pub size : length values ≡ length bits
-  pub each : (k : ℕ) → k < length bits → R (bit_at bits k) (value_at values k)
 
 -- each of the last n words stands to the slot word of its block as P says
 pub record EachWord (P : List Bool → List ℤ → Type 0) (n : ℕ) (blocks : List (List Bool)) (words : List (List ℤ))
@@ -17,10 +10,6 @@ pub record EachWord (P : List Bool → List ℤ → Type 0) (n : ℕ) (blocks : 
   pub size : length words ≡ length blocks
   pub each : (m : ℕ) → m < length words → length words ≤ m + n
       → P (spread_word n (take (m + 1) blocks)) (slice_index_or words m [])
-
--- the value has the sign of the bit, or is 0 and says nothing
-abbrev pub HasSignOrNone : Bool → ℤ → Type 0
-HasSignOrNone bit value = HasSign bit value ⊎ (value ≡ pos 0)
 
 -- blocks whose words all arrive undamaged arrive undamaged
 abbrev pub UndamagedArrives : Type 0
@@ -32,5 +21,4 @@ UndamagedArrives =
 abbrev pub NoneWrongArrives : Type 0
 NoneWrongArrives =
     (n : ℕ) (blocks : List (List Bool)) (words : List (List ℤ)) → IsDepth n → All (λ b. length b ≡ 432) blocks
-    → EachWord (Matches HasSignOrNone) n blocks words
-    → IfSome (gathered n words) (Matches HasSignOrNone (complete_block n blocks))
+    → EachWord IsNoneWrong n blocks words → IfSome (gathered n words) (IsNoneWrong (complete_block n blocks))

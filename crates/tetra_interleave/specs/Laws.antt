@@ -1,6 +1,6 @@
 -- The laws of interleavers.
 use Rattle.std.specs.Prelude.{ℕ, ◌*◌, ◌≡◌, Bool, false, List, length, ℤ, pos}
-use Rattle.tetra_bits.specs.Undamaged.{IsUndamaged}
+use Rattle.tetra_bits.specs.Undamaged.{IsUndamaged, IsNoneWrong}
 use Rattle.tetra_interleave.specs.Block.{block_place, IsBlock}
 use Rattle.tetra_interleave.specs.Matrix.{matrix_place}
 use Rattle.tetra_interleave.specs.Placed.{IsOneToOne, placed, taken}
@@ -27,3 +27,8 @@ MatricesAreOneToOne = (rows cols : ℕ) → IsOneToOne (rows * cols) (matrix_pla
 abbrev pub StayUndamaged : Type 0
 StayUndamaged = (n : ℕ) (place : ℕ → ℕ) (bits : List Bool) (soft : List ℤ) → IsOneToOne n place → length bits ≡ n
     → IsUndamaged (placed false n place bits) soft → IsUndamaged bits (taken (pos 0) n place soft)
+
+-- and values none of which has the wrong sign have none of it, taken back
+abbrev pub StayNoneWrong : Type 0
+StayNoneWrong = (n : ℕ) (place : ℕ → ℕ) (bits : List Bool) (soft : List ℤ) → IsOneToOne n place → length bits ≡ n
+    → IsNoneWrong (placed false n place bits) soft → IsNoneWrong bits (taken (pos 0) n place soft)

@@ -3,7 +3,9 @@ ghost use Rattle.std.specs.Prelude.{◌≡◌, ◌<◌, ◌≤◌, ◌+◌, ◌-
 ghost use Rattle.tetra_bits.specs.Numbered.{numbered};
 ghost use Rattle.tetra_interleave.specs.Block.{IsBlock, block_place};
 ghost use Rattle.tetra_interleave.specs.Placed.{IsPlaced, placed, taken};
-ghost use Rattle.tetra_interleave.specs.Steps.{step_entry};
+ghost use Rattle.tetra_interleave.specs.Steps.{step_entry, IsTwice};
+ghost use Rattle.tetra_bits.specs.Soft.{IsSoft, value_at};
+ghost use Rattle.tetra_bits.specs.lemmas.InPlace.{Begins};
 
 use tetra_bits::{Bits, Soft};
 
@@ -64,6 +66,9 @@ impl<const K: usize, const A: usize, const INV: usize> Block<K, A, INV> {
     }
 }
 
+/// How many entries are taken in a turn: in a loop of this length no place waits for the one before it.
+const TURN: usize = 8;
+
 /// The bits from place `from` on, each `by` places further modulo `K`. Places count from 0 here.
 fn bits_by_steps<const K: usize>(x: &Bits, from: usize, by: usize) -> Bits
     requires few { K ≤ 432 }
@@ -72,12 +77,15 @@ fn bits_by_steps<const K: usize>(x: &Bits, from: usize, by: usize) -> Bits
     requires step { by < K }
     ensures { result ≡ numbered (step_entry false K from by x.now) K }
 {
-    let mut all = Bits::new();
+    let mut twice = [false; 864];
+    write_bits_twice::<K>(x, &mut twice);
+    let mut all = Bits::zeros(K);
     let mut at = from;
-    for _bit in 0..K {
-        all.push(x.get(at));
-        at = moved::<K>(at, by);
+    for turn in 0..K / TURN {
+        take_bits::<K>(&twice, at, by, &mut all, TURN * turn, TURN);
+        at = moved::<K>(at, TURN * by % K);
     }
+    take_bits::<K>(&twice, at, by, &mut all, K / TURN * TURN, K % TURN);
     all
 }
 
@@ -89,11 +97,91 @@ fn values_by_steps<const K: usize>(x: &Soft, from: usize, by: usize, all: &mut S
     requires step { by < K }
     ensures { all.new ≡ numbered (step_entry (pos 0) K from by x.now) K }
 {
-    all.clear();
+    let mut twice = [0; 864];
+    write_values_twice::<K>(x, &mut twice);
+    all.resize(K);
     let mut at = from;
-    for _value in 0..K {
-        all.push(x.get(at));
-        at = moved::<K>(at, by);
+    for turn in 0..K / TURN {
+        take_values::<K>(&twice, at, by, all, TURN * turn, TURN);
+        at = moved::<K>(at, TURN * by % K);
+    }
+    take_values::<K>(&twice, at, by, all, K / TURN * TURN, K % TURN);
+}
+
+/// Writes the bits twice, the second time behind the first, so that the sum of two places below `K` is a place of the
+/// same bit as its rest modulo `K`.
+fn write_bits_twice<const K: usize>(x: &Bits, twice: &mut [bool; 864])
+    requires few { K ≤ 432 }
+    requires size { length x.now ≡ K }
+    ensures { IsTwice false K K x.now twice.new }
+{
+    for i in 0..K {
+        let bit = x.get(i);
+        twice[i] = bit;
+        twice[i + K] = bit;
+    }
+}
+
+/// The same of soft values.
+fn write_values_twice<const K: usize>(x: &Soft, twice: &mut [i16; 864])
+    requires few { K ≤ 432 }
+    requires size { length x.now ≡ K }
+    ensures twice { IsTwice (pos 0) K K x.now twice.new }
+    ensures soft { (k : ℕ) → k < 2 * K → IsSoft (value_at twice.new k) }
+{
+    for i in 0..K {
+        let value = x.get(i);
+        twice[i] = value;
+        twice[i + K] = value;
+    }
+}
+
+/// Takes so many bits, from entry `first` on, which stands at place `at`, each `by` places further.
+#[inline(always)]
+fn take_bits<const K: usize>(
+    twice: &[bool; 864],
+    at: usize,
+    by: usize,
+    all: &mut Bits,
+    first: usize,
+    count: usize,
+)
+    requires few { K ≤ 432 }
+    requires place { at < K }
+    requires step { by < K }
+    requires last { first + count ≤ K }
+    requires size { length all.old ≡ K }
+    ensures size { length all.new ≡ K }
+    ensures taken { (x : List Bool) (from : ℕ) → IsTwice false K K x twice.now → at ≡ (from + by * first) % K
+        → Begins (step_entry false K from by x) false first all.old → Begins (step_entry false K from by x) false (first + count) all.new }
+{
+    for i in 0..count {
+        all.set(first + i, twice[at + by * i % K]);
+    }
+}
+
+/// The same of soft values.
+#[inline(always)]
+fn take_values<const K: usize>(
+    twice: &[i16; 864],
+    at: usize,
+    by: usize,
+    all: &mut Soft,
+    first: usize,
+    count: usize,
+)
+    requires few { K ≤ 432 }
+    requires place { at < K }
+    requires step { by < K }
+    requires last { first + count ≤ K }
+    requires size { length all.old ≡ K }
+    requires soft { (k : ℕ) → k < 2 * K → IsSoft (value_at twice.now k) }
+    ensures size { length all.new ≡ K }
+    ensures taken { (x : List ℤ) (from : ℕ) → IsTwice (pos 0) K K x twice.now → at ≡ (from + by * first) % K
+        → Begins (step_entry (pos 0) K from by x) (pos 0) first all.old → Begins (step_entry (pos 0) K from by x) (pos 0) (first + count) all.new }
+{
+    for i in 0..count {
+        all.set(first + i, twice[at + by * i % K]);
     }
 }
 

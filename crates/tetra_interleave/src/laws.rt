@@ -1,5 +1,5 @@
 // Laws of the interleavers.
-ghost use Rattle.tetra_interleave.specs.Laws.{AllAreUndone, BlocksAreOneToOne, MatricesAreOneToOne, StayUndamaged};
+ghost use Rattle.tetra_interleave.specs.Laws.{AllAreUndone, BlocksAreOneToOne, MatricesAreOneToOne, StayUndamaged, StayNoneWrong};
 
 /// Back after out is the list itself, and out after back too.
 pub fn all_are_undone()
@@ -19,4 +19,10 @@ pub fn matrices_are_one_to_one()
 /// Values that have the signs of interleaved bits have, taken back, the signs of the bits.
 pub fn stay_undamaged()
     ensures { StayUndamaged }
+{}
+
+/// Values none of which has the wrong sign for interleaved bits, though some may be 0, have, taken back, no wrong sign
+/// for the bits.
+pub fn stay_none_wrong()
+    ensures { StayNoneWrong }
 {}

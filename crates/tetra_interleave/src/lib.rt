@@ -6,5 +6,7 @@ mod laws;
 mod matrix;
 
 pub use block::Block;
-pub use laws::{all_are_undone, blocks_are_one_to_one, matrices_are_one_to_one, stay_undamaged};
+pub use laws::{
+    all_are_undone, blocks_are_one_to_one, matrices_are_one_to_one, stay_none_wrong, stay_undamaged,
+};
 pub use matrix::Matrix;

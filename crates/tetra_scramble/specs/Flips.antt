@@ -6,7 +6,7 @@ use Rattle.tetra_bits.specs.Numbered.{numbered}
 use Rattle.tetra_bits.specs.Order.{bit_at}
 use Rattle.tetra_bits.specs.Soft.{value_at}
 use Rattle.tetra_bits.specs.Sums.{add2}
-use Rattle.tetra_bits.specs.Undamaged.{IsUndamaged}
+use Rattle.tetra_bits.specs.Undamaged.{IsUndamaged, IsNoneWrong}
 
 -- the key bit that goes with entry i
 unfoldable pub key_bit_for : List Bool → ℕ → ℕ → Bool
@@ -40,3 +40,9 @@ abbrev pub StaysUndamaged : Type 0
 StaysUndamaged =
     (bits : List Bool) (values : List ℤ) (key : List Bool) (from : ℕ) → IsUndamaged bits values
     → IsUndamaged (flipped bits key from) (turned values key from)
+
+-- and values none of which has the wrong sign have none of it, once turned
+abbrev pub StaysNoneWrong : Type 0
+StaysNoneWrong =
+    (bits : List Bool) (values : List ℤ) (key : List Bool) (from : ℕ) → IsNoneWrong bits values
+    → IsNoneWrong (flipped bits key from) (turned values key from)

@@ -1,6 +1,6 @@
 // Laws of the key.
 ghost use Rattle.tetra_scramble.specs.Key.{OnlyKey, KeyIsKey};
-ghost use Rattle.tetra_scramble.specs.Flips.{FlippedBack, TurnedBack, StaysUndamaged};
+ghost use Rattle.tetra_scramble.specs.Flips.{FlippedBack, TurnedBack, StaysUndamaged, StaysNoneWrong};
 
 /// The key as a function obeys the recurrence.
 pub fn key_is_key()
@@ -25,4 +25,10 @@ pub fn turned_back()
 /// Values that have the signs of bits have, once turned, the signs of the bits with the same key bits added.
 pub fn stays_undamaged()
     ensures { StaysUndamaged }
+{}
+
+/// Values none of which has the wrong sign for bits, though some may be 0, have, once turned, no wrong sign for the bits
+/// with the same key bits added.
+pub fn stays_none_wrong()
+    ensures { StaysNoneWrong }
 {}

@@ -8,9 +8,11 @@ mod laws;
 mod register;
 
 pub use colour::Colour;
-pub use flips::{flip_bits, flip_soft, flip_soft_into};
+pub use flips::{flip_bits, flip_bits_in_place, flip_soft, flip_soft_in_place, flip_soft_into};
 pub use keys::Key;
-pub use laws::{flipped_back, key_is_key, only_key, stays_undamaged, turned_back};
+pub use laws::{
+    flipped_back, key_is_key, only_key, stays_none_wrong, stays_undamaged, turned_back,
+};
 pub use register::{key, zero_key};
 
 #[cfg(test)]

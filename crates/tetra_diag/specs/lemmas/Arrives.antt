@@ -7,8 +7,9 @@ use Rattle.std.proofs.lemmas.List.{get_or-take, length-take-le}
 use Rattle.std.proofs.lemmas.Bool.{lt-ltb, le-ltb, cases_lt}
 use Rattle.std.proofs.lemmas.Nat.{div_below, mod_below, div-mul-add, mod-mul-add, div-add-mod'}
 use Rattle.tetra_bits.specs.Numbered.{length-numbered, get_or-numbered}
+use Rattle.tetra_bits.specs.Undamaged.{Matches}
 use Rattle.tetra_diag.specs.Diagonal.{IsDepth, spread_bit, spread_word, gathered_value, gathered, complete_block}
-use Rattle.tetra_diag.specs.Arrives.{Matches, EachWord}
+use Rattle.tetra_diag.specs.Arrives.{EachWord}
 use Rattle.tetra_diag.specs.lemmas.Depths.{depth_width}
 
 -- place p of the block, counted from 0, lies in one of the words

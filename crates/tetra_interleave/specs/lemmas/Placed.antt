@@ -1,13 +1,14 @@
 -- What holds of lists whose entries are put at places that are one-to-one.
 use Prim.Native.Nat.{zero, suc}
-use Rattle.std.proofs.Common.{ℕ, ◌+◌, ◌-◌, ◌<◌, ◌≤◌, ◌≡◌, inl, inr, false, List, length, get_or, pos, arith, ap, sym, subst, ◌∙◌}
+use Rattle.std.proofs.Common.{ℕ, ◌+◌, ◌-◌, ◌<◌, ◌≤◌, ◌≡◌, inl, inr, Bool, false, List, ℤ, length, get_or, pos, arith, ap, sym, subst, ◌∙◌}
 use Rattle.std.proofs.lemmas.Bool.{cases_eq, eq-eqb, ne_eqb}
 use Rattle.std.proofs.lemmas.List.{ext_get_or}
 use Rattle.tetra_bits.specs.Numbered.{length-numbered, get_or-numbered}
 use Rattle.tetra_bits.specs.Order.{bit_at}
 use Rattle.tetra_bits.specs.Soft.{value_at}
-use Rattle.tetra_bits.specs.Undamaged.{HasSign}
-use Rattle.tetra_interleave.specs.Laws.{IsUndone, StayUndamaged, AllAreUndone}
+use Rattle.tetra_bits.specs.Undamaged.{HasSign, HasSignOrNone, Matches}
+use Rattle.tetra_bits.specs.lemmas.Written.{undamaged_matches, matches_undamaged}
+use Rattle.tetra_interleave.specs.Laws.{IsUndone, StayUndamaged, StayNoneWrong, AllAreUndone}
 use Rattle.tetra_interleave.specs.Placed.{IsOneToOne, IsPlaced, entry_for, placed, entry_from, taken}
 
 module _ {X : Type 0} where
@@ -100,17 +101,26 @@ module _ {X : Type 0} where
 pub all_are_undone : AllAreUndone
 all_are_undone n place o = (λ x l. undone false n place x o l, λ x l. undone (pos 0) n place x o l)
 
--- a value taken back has the sign of its bit
-pub stay_undamaged : StayUndamaged
+-- a value taken back stands to its bit as before
+stay_matched : (R : Bool → ℤ → Type 0) (n : ℕ) (place : ℕ → ℕ) (bits : List Bool) (soft : List ℤ) → IsOneToOne n place → length bits ≡ n
+    → Matches R (placed false n place bits) soft → Matches R bits (taken (pos 0) n place soft)
 unfolding taken entry_from
-stay_undamaged n place bits soft o l u =
+stay_matched R n place bits soft o l h =
     record {
       size = length-taken (pos 0) n place soft ∙ sym l;
-      signs = λ k h.
+      each = λ k b.
           let within = o.within (k + 1) (omega arith) (omega arith) in
           let q = place (k + 1) - 1 in
-          let s : HasSign (bit_at (placed false n place bits) q) (value_at soft q) = u.signs q (omega (arith, within, length-placed false n place bits)) in
+          let s : R (bit_at (placed false n place bits) q) (value_at soft q) = h.each q (omega (arith, within, length-placed false n place bits)) in
           let back : k + 1 - 1 ≡ k = omega arith in
           let e : bit_at (placed false n place bits) q ≡ bit_at bits k = (placed_is false n place bits o l).entries (k + 1) (omega arith) (omega arith) ∙ ap (bit_at bits) back in
-          rw (get_or-numbered (entry_from (pos 0) place soft) n k (pos 0) (omega arith)) (subst (λ b. HasSign b (value_at soft q)) e s);
+          rw (get_or-numbered (entry_from (pos 0) place soft) n k (pos 0) (omega arith)) (subst (λ bit. R bit (value_at soft q)) e s);
     }
+
+pub stay_undamaged : StayUndamaged
+stay_undamaged n place bits soft o l u =
+    matches_undamaged bits (taken (pos 0) n place soft)
+    (stay_matched HasSign n place bits soft o l (undamaged_matches (placed false n place bits) soft u))
+
+pub stay_none_wrong : StayNoneWrong
+stay_none_wrong n place bits soft o l h = stay_matched HasSignOrNone n place bits soft o l h

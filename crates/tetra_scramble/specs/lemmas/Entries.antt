@@ -1,6 +1,6 @@
 -- The entries of flipped bits and turned values.
 use Prim.Native.Nat.{zero, suc}
-use Rattle.std.proofs.Common.{◌≡◌, ℕ, ◌+◌, ◌-◌, ◌<◌, ◌≤◌, Bool, true, false, cond, not, ℤ, pos, negsuc, List, length, arith, refl, sym, ap, ◌∙◌}
+use Rattle.std.proofs.Common.{◌≡◌, ℕ, ◌+◌, ◌-◌, ◌<◌, ◌≤◌, inl, inr, Bool, true, false, cond, not, ℤ, pos, negsuc, List, length, arith, refl, sym, ap, ◌∙◌}
 use Rattle.std.proofs.Math.Bool.{beq}
 use Rattle.std.proofs.Math.IntN.{neg_ℤ, neg_ℤ-neg_ℤ}
 use Rattle.std.proofs.lemmas.List.{ext_get_or}
@@ -9,8 +9,9 @@ use Rattle.tetra_bits.specs.Order.{bit_at}
 use Rattle.tetra_bits.specs.Soft.{value_at, IsWithin, AllWithin}
 use Rattle.tetra_bits.specs.lemmas.Within.{neg_within, within_at}
 use Rattle.tetra_bits.specs.Sums.{add2}
-use Rattle.tetra_bits.specs.Undamaged.{HasSign, IsUndamaged}
-use Rattle.tetra_scramble.specs.Flips.{key_bit_for, flipped_bit, flipped, turned_value, turned, FlippedBack, TurnedBack, StaysUndamaged}
+use Rattle.tetra_bits.specs.Undamaged.{HasSign, HasSignOrNone, IsUndamaged, Matches}
+use Rattle.tetra_bits.specs.lemmas.Written.{undamaged_matches, matches_undamaged}
+use Rattle.tetra_scramble.specs.Flips.{key_bit_for, flipped_bit, flipped, turned_value, turned, FlippedBack, TurnedBack, StaysUndamaged, StaysNoneWrong}
 
 added : (a b : Bool) → not (beq a b) ≡ add2 a b
 added true true = refl
@@ -100,15 +101,29 @@ sign_follows true false (negsuc n) h = absurd h
 sign_follows false true v h = h
 sign_follows false false v h = h
 
+none_wrong_follows : (b bit : Bool) (v : ℤ) → HasSignOrNone bit v → HasSignOrNone (add2 bit b) (cond b (neg_ℤ v) v)
+none_wrong_follows b bit v (inl sign) = inl (sign_follows b bit v sign)
+none_wrong_follows true bit v (inr none) = inr (rw none refl)
+none_wrong_follows false bit v (inr none) = inr none
+
+-- what holds between bits and values, and follows them when both are turned, holds when all are turned
+stays_matched : (R : Bool → ℤ → Type 0) → ((b bit : Bool) (v : ℤ) → R bit v → R (add2 bit b) (cond b (neg_ℤ v) v))
+    → (bits : List Bool) (values : List ℤ) (key : List Bool) (from : ℕ) → Matches R bits values → Matches R (flipped bits key from) (turned values key from)
+stays_matched R follows bits values key from h =
+    record {
+      size = length-turned values key from ∙ h.size ∙ sym (length-flipped bits key from);
+      each = λ k l.
+          let inside : k < length bits = omega (arith, length-flipped bits key from) in
+          let there : k < length values = omega (arith, h.size) in
+          rw (flipped_at bits key from k inside, turned_at values key from k there) (follows (key_bit_for key from (k + 1)) (bit_at bits k) (value_at values k) (h.each k inside));
+    }
+
 pub stays_undamaged : StaysUndamaged
 stays_undamaged bits values key from u =
-    record {
-      size = length-turned values key from ∙ u.size ∙ sym (length-flipped bits key from);
-      signs = λ k h.
-          let inside : k < length bits = omega (arith, length-flipped bits key from) in
-          let there : k < length values = omega (arith, u.size) in
-          rw (flipped_at bits key from k inside, turned_at values key from k there) (sign_follows (key_bit_for key from (k + 1)) (bit_at bits k) (value_at values k) (u.signs k inside));
-    }
+    matches_undamaged (flipped bits key from) (turned values key from) (stays_matched HasSign sign_follows bits values key from (undamaged_matches bits values u))
+
+pub stays_none_wrong : StaysNoneWrong
+stays_none_wrong bits values key from h = stays_matched HasSignOrNone none_wrong_follows bits values key from h
 
 -- values that have the signs of scrambled bits have, once turned, those of the bits
 pub descrambled_undamaged : (bits : List Bool) (values : List ℤ) (key : List Bool) (from : ℕ) → IsUndamaged (flipped bits key from) values → IsUndamaged bits (turned values key from)

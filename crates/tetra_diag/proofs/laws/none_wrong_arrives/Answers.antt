@@ -1,4 +1,4 @@
-use Rattle.tetra_diag.specs.Arrives.{HasSignOrNone}
+use Rattle.tetra_bits.specs.Undamaged.{HasSignOrNone}
 use Rattle.tetra_diag.specs.lemmas.Arrives.{arrives}
 use Rattle.tetra_diag.proofs.laws.none_wrong_arrives.Goals as goal
 

@@ -1,8 +1,8 @@
 use Rattle.std.proofs.Common.{List, Bool, ℤ, ℕ}
 use Rattle.std.specs.Prelude.{Option, Some, None, IfSome}
-use Rattle.tetra_bits.specs.Undamaged.{HasSign, IsUndamaged}
+use Rattle.tetra_bits.specs.Undamaged.{HasSign, IsUndamaged, Matches}
 use Rattle.tetra_diag.specs.Diagonal.{gathered, complete_block}
-use Rattle.tetra_diag.specs.Arrives.{Matches, EachWord}
+use Rattle.tetra_diag.specs.Arrives.{EachWord}
 use Rattle.tetra_diag.specs.lemmas.Arrives.{arrives}
 use Rattle.tetra_diag.proofs.laws.undamaged_arrives.Goals as goal
 

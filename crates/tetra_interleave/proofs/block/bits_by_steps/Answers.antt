@@ -1,31 +1,26 @@
-use Rattle.std.proofs.Common.{◌≡◌, ◌+◌, ◌*◌, ◌%◌, arith, false, get_or, ap, ◌∙◌}
-use Rattle.tetra_bits.specs.Numbered.{numbered, numbered_none}
+use Rattle.std.proofs.Common.{◌≡◌, ◌+◌, ◌*◌, ◌/◌, ◌%◌, ℕ, arith, false, ap, subst, ◌∙◌}
+use Rattle.std.proofs.lemmas.Nat.{mod_below}
+use Rattle.tetra_bits.specs.lemmas.InPlace.{Begins, begins_all}
 use Rattle.tetra_interleave.specs.Steps.{step_entry}
-use Rattle.tetra_interleave.proofs.BySteps.{start, step_index}
-use Rattle.tetra_interleave.proofs.BySteps.{step_more, length_so_far}
+use Rattle.tetra_interleave.proofs.BySteps.{next_turn}
 use Rattle.tetra_interleave.proofs.block.bits_by_steps.Goals as goal
 
-pub loop-bit-init : goal.loop-bit-init
-loop-bit-init g c =
+pub loop-turn-preserved : goal.loop-turn-preserved
+loop-turn-preserved g c =
+    let t = c.loop-turn.turn in
+    let next : 8 * t + 8 ≡ 8 * (t + 1) = omega arith in
     record {
-      at = start g.row.K c.args.from c.args.by c.requires.place;
-      entries = rw (numbered_none (step_entry false g.row.K c.args.from c.args.by c.args.x.now)) c.new-all.ensures;
-    }
-
-pub push-requires : goal.push-requires
-push-requires g c =
-    let l = length_so_far (step_entry false g.row.K c.args.from c.args.by c.args.x.now) c.loop-bit.all c.loop-bit._bit c.loop-bit.invariant.entries in
-    omega (arith, l)
-
-pub loop-bit-preserved : goal.loop-bit-preserved
-loop-bit-preserved g c =
-    let p = c.loop-bit._bit in
-    record {
-      at = c.moved-at.ensures ∙ ap (λ n. (n + c.args.by) % g.row.K) c.loop-bit.invariant.at ∙ step_index (c.args.from + c.args.by * p) (c.args.from + c.args.by * (p + 1)) c.args.by g.row.K (omega arith);
-      entries = step_more false g.row.K c.args.from c.args.by c.args.x.now c.loop-bit.all c.push.new.self p c.get.result c.loop-bit.invariant.entries c.push.ensures.list (c.get.ensures ∙ ap (λ n. get_or c.args.x.now n false) c.loop-bit.invariant.at);
+      size = c.take_bits.ensures.size;
+      below = rw c.moved-at.ensures (mod_below (c.loop-turn.at + (8 * c.args.by) % g.row.K) g.row.K (omega arith));
+      at = next_turn g.row.K c.args.from c.args.by c.loop-turn.at t c.moved-at.result c.loop-turn.invariant.at c.moved-at.ensures;
+      taken = subst (λ (n : ℕ). Begins (step_entry false g.row.K c.args.from c.args.by c.args.x.now) false n c.take_bits.new.all) next
+          (c.take_bits.ensures.taken c.args.x.now c.args.from c.write_bits_twice.ensures c.loop-turn.invariant.at c.loop-turn.invariant.taken);
     }
 
 pub returns : goal.returns
 returns g c =
-    let e : c.loop-bit._bit ≡ g.row.K = omega arith in
-    c.loop-bit.invariant.entries ∙ ap (numbered (step_entry false g.row.K c.args.from c.args.by c.args.x.now)) e
+    let whole : 8 * c.loop-turn.turn ≡ g.row.K / 8 * 8 = omega arith in
+    let front = subst (λ (n : ℕ). Begins (step_entry false g.row.K c.args.from c.args.by c.args.x.now) false n c.loop-turn.all) whole c.loop-turn.invariant.taken in
+    let at = c.loop-turn.invariant.at ∙ ap (λ n. (c.args.from + c.args.by * n) % g.row.K) whole in
+    begins_all (step_entry false g.row.K c.args.from c.args.by c.args.x.now) false g.row.K (g.row.K / 8 * 8 + g.row.K % 8) c.take_bits-2.new.all c.take_bits-2.ensures.size
+    (c.take_bits-2.ensures.taken c.args.x.now c.args.from c.write_bits_twice.ensures at front) (omega arith)

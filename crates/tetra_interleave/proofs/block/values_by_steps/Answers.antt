@@ -1,36 +1,26 @@
-use Rattle.std.proofs.Common.{◌≡◌, ◌+◌, ◌*◌, ◌%◌, arith, rules, pos, get_or, ap, ◌∙◌, FitsSigned, w16, to_z, of_z}
-use Rattle.std.proofs.lemmas.Int.{to_z-of_z}
-use Rattle.tetra_bits.specs.Numbered.{numbered, numbered_none}
-use Rattle.tetra_bits.specs.Soft.{IsSoft}
+use Rattle.std.proofs.Common.{◌≡◌, ◌+◌, ◌*◌, ◌/◌, ◌%◌, ℕ, arith, pos, ap, subst, ◌∙◌}
+use Rattle.std.proofs.lemmas.Nat.{mod_below}
+use Rattle.tetra_bits.specs.lemmas.InPlace.{Begins, begins_all}
 use Rattle.tetra_interleave.specs.Steps.{step_entry}
-use Rattle.tetra_interleave.proofs.BySteps.{start, step_index}
-use Rattle.tetra_interleave.proofs.BySteps.{step_more, length_so_far}
+use Rattle.tetra_interleave.proofs.BySteps.{next_turn}
 use Rattle.tetra_interleave.proofs.block.values_by_steps.Goals as goal
 
-pub loop-value-init : goal.loop-value-init
-loop-value-init g c =
+pub loop-turn-preserved : goal.loop-turn-preserved
+loop-turn-preserved g c =
+    let t = c.loop-turn.turn in
+    let next : 8 * t + 8 ≡ 8 * (t + 1) = omega arith in
     record {
-      at = start g.row.K c.args.from c.args.by c.requires.place;
-      entries = rw (numbered_none (step_entry (pos 0) g.row.K c.args.from c.args.by c.args.x.now)) c.clear.ensures;
-    }
-
-pub push-requires : goal.push-requires
-push-requires g c =
-    let l = length_so_far (step_entry (pos 0) g.row.K c.args.from c.args.by c.args.x.now) c.loop-value.all c.loop-value._value c.loop-value.invariant.entries in
-    let soft : IsSoft (to_z w16 (of_z w16 c.get.result)) = rw (to_z-of_z w16 c.get.result (search rules)) c.get.ensures.soft in
-    (omega arith, (omega (arith, l), soft))
-
-pub loop-value-preserved : goal.loop-value-preserved
-loop-value-preserved g c =
-    let fits : FitsSigned w16 c.get.result = search rules in
-    let list = simp to_z-of_z at c.push.ensures.list in
-    let p = c.loop-value._value in
-    record {
-      at = c.moved-at.ensures ∙ ap (λ n. (n + c.args.by) % g.row.K) c.loop-value.invariant.at ∙ step_index (c.args.from + c.args.by * p) (c.args.from + c.args.by * (p + 1)) c.args.by g.row.K (omega arith);
-      entries = step_more (pos 0) g.row.K c.args.from c.args.by c.args.x.now c.loop-value.all c.push.new.self p c.get.result c.loop-value.invariant.entries list (c.get.ensures.value ∙ ap (λ n. get_or c.args.x.now n (pos 0)) c.loop-value.invariant.at);
+      size = c.take_values.ensures.size;
+      below = rw c.moved-at.ensures (mod_below (c.loop-turn.at + (8 * c.args.by) % g.row.K) g.row.K (omega arith));
+      at = next_turn g.row.K c.args.from c.args.by c.loop-turn.at t c.moved-at.result c.loop-turn.invariant.at c.moved-at.ensures;
+      taken = subst (λ (n : ℕ). Begins (step_entry (pos 0) g.row.K c.args.from c.args.by c.args.x.now) (pos 0) n c.take_values.new.all) next
+          (c.take_values.ensures.taken c.args.x.now c.args.from c.write_values_twice.ensures.twice c.loop-turn.invariant.at c.loop-turn.invariant.taken);
     }
 
 pub returns : goal.returns
 returns g c =
-    let e : c.loop-value._value ≡ g.row.K = omega arith in
-    c.loop-value.invariant.entries ∙ ap (numbered (step_entry (pos 0) g.row.K c.args.from c.args.by c.args.x.now)) e
+    let whole : 8 * c.loop-turn.turn ≡ g.row.K / 8 * 8 = omega arith in
+    let front = subst (λ (n : ℕ). Begins (step_entry (pos 0) g.row.K c.args.from c.args.by c.args.x.now) (pos 0) n c.loop-turn.all) whole c.loop-turn.invariant.taken in
+    let at = c.loop-turn.invariant.at ∙ ap (λ n. (c.args.from + c.args.by * n) % g.row.K) whole in
+    begins_all (step_entry (pos 0) g.row.K c.args.from c.args.by c.args.x.now) (pos 0) g.row.K (g.row.K / 8 * 8 + g.row.K % 8) c.take_values-2.new.all c.take_values-2.ensures.size
+    (c.take_values-2.ensures.taken c.args.x.now c.args.from c.write_values_twice.ensures.twice at front) (omega arith)

@@ -1,11 +1,13 @@
-use Rattle.std.proofs.Common.{◌≡◌, ◌+◌, ◌*◌, ◌%◌, pos}
-use Rattle.tetra_bits.specs.Numbered.{numbered}
+use Rattle.std.proofs.Common.{◌≡◌, ◌+◌, ◌*◌, ◌%◌, ◌<◌, length, pos}
+use Rattle.tetra_bits.specs.lemmas.InPlace.{Begins}
 use Rattle.tetra_interleave.specs.Steps.{step_entry}
 use Rattle.tetra_interleave.proofs.block.values_by_steps.Given as goal
 
-abbrev pub invariant-loop-value : goal.invariant-loop-value
-invariant-loop-value g l =
+abbrev pub invariant-loop-turn : goal.invariant-loop-turn
+invariant-loop-turn g l =
     record {
-      at : l.at ≡ (l.fn.from + l.by * l._value) % g.row.K;
-      entries : l.all ≡ numbered (step_entry (pos 0) g.row.K l.fn.from l.by l.x) l._value;
+      size : length l.all ≡ g.row.K;
+      below : l.at < g.row.K;
+      at : l.at ≡ (l.fn.from + l.by * (8 * l.turn)) % g.row.K;
+      taken : Begins (step_entry (pos 0) g.row.K l.fn.from l.by l.x) (pos 0) (8 * l.turn) l.all;
     }

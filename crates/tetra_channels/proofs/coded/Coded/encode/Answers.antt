@@ -1,5 +1,5 @@
 use Rattle.std.proofs.Common.{ap, ◌∙◌}
-use Rattle.tetra_channels.specs.Channels.{coded, type3_bits, type4_bits, type5_bits, word_bits}
+use Rattle.tetra_channels.specs.Channels.{coded, type4_bits, type5_bits, word_bits}
 use Rattle.tetra_channels.proofs.coded.Coded.encode.Goals as goal
 
 pub returns-clause-bits : goal.returns-clause-bits

@@ -1,3 +1,4 @@
 pub mod Checked
+pub mod Tables
 pub mod Verdicts
 pub mod lemmas

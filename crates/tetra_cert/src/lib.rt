@@ -8,6 +8,7 @@ mod laws;
 mod metrics;
 mod rules;
 mod steps;
+mod tables;
 mod verdict;
 
 pub use checking::check;

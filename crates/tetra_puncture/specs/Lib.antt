@@ -1,4 +1,5 @@
 pub mod Plan
+pub mod Outputs
 pub mod Places
 pub mod Spread
 pub mod Best
@@ -9,4 +10,5 @@ pub mod Certified
 pub mod ToGo
 pub mod lemmas
 pub mod Labels
+pub mod Butterflies
 pub mod Steps

@@ -18,6 +18,13 @@ spread_value p r v = value_among p r v p.sent
 unfoldable pub spread_values : CodePlan → List ℤ → List ℤ
 spread_values p r = numbered (spread_value p r) (p.outs * p.steps)
 
+-- wide has each of the first n sent values at its place, and 0 elsewhere
+pub record IsSpreadTo (p : CodePlan) (r : List ℤ) (n : ℕ) (wide : List ℤ) : Type 0 where
+  pub size : length wide ≡ p.outs * p.steps
+  pub placed : (j : ℕ) → 1 ≤ j → j ≤ n → value_at wide (p.place j - 1) ≡ value_at r (j - 1)
+  pub rest : (v : ℕ) → 1 ≤ v → v ≤ p.outs * p.steps → ((j : ℕ) → 1 ≤ j → j ≤ n → p.place j ≢ v)
+      → value_at wide (v - 1) ≡ pos 0
+
 -- wide has each sent value at its place, and 0 elsewhere
 pub record IsSpread (p : CodePlan) (r wide : List ℤ) : Type 0 where
   pub size : length wide ≡ p.outs * p.steps

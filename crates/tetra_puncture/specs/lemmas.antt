@@ -19,8 +19,12 @@ pub mod Shapes
 pub mod Undamaged
 pub mod OwnCosts
 pub mod Front
-pub mod Walk
 pub mod Outputs
+pub mod Lanes
+pub mod Masked
+pub mod Butterflies
+pub mod Stepping
+pub mod Marks
 pub mod RowEntries
 pub mod Speech
 pub mod SpeechWhole

@@ -1,12 +1,17 @@
 // What the branches of one step of the trellis cost. Decoder and checker both stand on it.
-ghost use Rattle.std.specs.Prelude.{◌≡◌, ◌<◌, ◌≤◌, ◌+◌, ◌*◌, ◌^◌, ◌∷◌, [], ℕ, Bool, false, true, pos, length, slice_index};
+ghost use Rattle.std.specs.Prelude.{◌≡◌, ◌<◌, ◌≤◌, ◌+◌, ◌*◌, ◌^◌, ◌∷◌, [], ℕ, Bool, false, true, pos, length, slice_index, IsTrue};
 ghost use Rattle.tetra_bits.specs.Cost.{cost};
 ghost use Rattle.tetra_bits.specs.Order.{bit_at};
 ghost use Rattle.tetra_bits.specs.Soft.{IsSoft, value_at};
 ghost use Rattle.tetra_puncture.specs.Labels.{number_of, label_at, HasLabels, AreLabels, IsStep, AreCosts};
+ghost use Rattle.tetra_puncture.specs.Butterflies.{HasMasks, IsPaired, AreLaneCosts};
 ghost use Rattle.tetra_puncture.specs.Trellis.{step_cost};
 
+use crate::butterflies::masked_costs;
+use crate::lanes::{even, odd};
+use crate::masks::masks_of;
 use crate::plan::Plan;
+use std::simd::prelude::*;
 use tetra_bits::{Wide, cost};
 use tetra_mother::{Mother, outs};
 
@@ -16,15 +21,24 @@ use tetra_mother::{Mother, outs};
 pub struct Labels {
     zero: [usize; 16],
     one: [usize; 16],
+    masks: [[u32; 8]; 4],
 }
 
 impl Labels {
     /// The labels of all branches.
     pub fn of<M: Mother>() -> Labels
-        ensures { HasLabels M.taps M.OUTS result }
+        ensures labels { HasLabels M.taps M.OUTS result }
+        ensures masks { HasMasks M.taps M.OUTS result }
     {
+        let zero = labels_of::<M>(false);
         Labels {
-            zero: labels_of::<M>(false),
+            masks: [
+                masks_of(&zero, 8),
+                masks_of(&zero, 4),
+                masks_of(&zero, 2),
+                masks_of(&zero, 1),
+            ],
+            zero,
             one: labels_of::<M>(true),
         }
     }
@@ -131,6 +145,7 @@ pub struct BranchCosts {
 }
 
 /// What step `t`, counted from 0, costs from all states, over the values `wide` at all places of the mother word.
+#[inline(always)]
 pub fn branch_costs<P: Plan>(wide: &Wide, labels: &Labels, t: usize) -> BranchCosts
     requires sound { P.IsSound }
     requires size { length wide.now ≡ P.plan.outs * P.plan.steps }
@@ -157,4 +172,43 @@ fn costs_with(costs: &[u32; 16], labels: &Labels, bit: bool) -> [u32; 16]
         all[usize::from(state)] = costs[labels.at(state, bit)];
     }
     all
+}
+
+/// What the branches of a step cost by lanes: lane `i` of each field has the state `2 i` or `2 i + 1`.
+#[derive(Clone, Copy, Drop)]
+pub struct LaneCosts {
+    pub even_zero: u32x8,
+    pub even_one: u32x8,
+    pub odd_zero: u32x8,
+    pub odd_one: u32x8,
+}
+
+/// The same as `branch_costs` by lanes. Of a code that is paired those with bit 0 from the even states are enough.
+#[inline(always)]
+pub fn lane_costs<P: Plan, const PAIRED: bool>(wide: &Wide, labels: &Labels, t: usize) -> LaneCosts
+    requires sound { P.IsSound }
+    requires size { length wide.now ≡ P.plan.outs * P.plan.steps }
+    requires labels { HasLabels P.plan.taps P.plan.outs labels.now }
+    requires masks { HasMasks P.plan.taps P.plan.outs labels.now }
+    requires paired { IsTrue PAIRED → IsPaired P.plan.taps P.plan.outs }
+    requires step { t < P.plan.steps }
+    ensures { AreLaneCosts P.plan wide.now t result }
+{
+    if PAIRED {
+        let (cost, turned) = masked_costs(&labels.masks, step_values::<P::Code>(wide, t));
+        LaneCosts {
+            even_zero: cost,
+            even_one: turned,
+            odd_zero: turned,
+            odd_one: cost,
+        }
+    } else {
+        let costs = branch_costs::<P>(wide, labels, t);
+        LaneCosts {
+            even_zero: even(&costs.zero),
+            even_one: even(&costs.one),
+            odd_zero: odd(&costs.zero),
+            odd_one: odd(&costs.one),
+        }
+    }
 }

@@ -5,26 +5,33 @@
 ghost use Rattle.std.specs.Prelude.{◌≡◌, ◌≤◌, length};
 
 mod branches;
+mod butterflies;
 mod data;
+mod lanes;
 mod laws;
+mod masks;
+mod outputs;
 mod plan;
 mod rule;
 mod sending;
 mod speech;
 mod spreading;
+mod stepping;
 mod two_thirds;
 
-pub use branches::{BranchCosts, Labels, branch_cost, branch_costs};
+pub use branches::{BranchCosts, Labels, LaneCosts, branch_cost, branch_costs, lane_costs};
 pub use data::{P148, P292};
 pub use laws::{
     accepted_is_certified, cost_to_go_is_found, cost_to_go_is_one, costs_to_go_are_accepted,
     least_branch_is_row_entry, words_differ,
 };
+pub use masks::is_paired;
 pub use plan::Plan;
 pub use rule::Rule;
-pub use sending::keep;
+pub use sending::{keep, keep_into};
 pub use speech::{SpeechHalf, SpeechWhole};
-pub use spreading::spread;
+pub use spreading::{spread, spread_into};
+pub use stepping::{MarkedRow, marked_row, zero_row};
 pub use two_thirds::TwoThirds;
 
 // The clauses say every value. This calls each function once at the smallest plan: a 1 and zeros, whose

@@ -1,11 +1,18 @@
 // The sent word of a message.
-ghost use Rattle.std.specs.Prelude.{◌≡◌, ◌<◌, ◌≤◌, length};
-ghost use Rattle.tetra_mother.specs.Mother.{bit_back, state_before};
-ghost use Rattle.tetra_puncture.specs.Plan.{word, IsMessage, tailed};
+ghost use Rattle.std.specs.Prelude.{◌≡◌, ◌<◌, ◌≤◌, ◌+◌, ◌*◌, Bool, List, length, false};
+ghost use Rattle.tetra_bits.specs.lemmas.InPlace.{Begins};
+ghost use Rattle.tetra_mother.specs.Mother.{mother_bit};
+ghost use Rattle.tetra_puncture.specs.Outputs.{AreOutputs};
+ghost use Rattle.tetra_puncture.specs.Plan.{word, IsMessage, sent_bit, tailed};
 
+use crate::outputs::{Outputs, outputs_of};
 use crate::plan::Plan;
 use tetra_bits::Bits;
-use tetra_mother::{Mother, next, outs};
+use tetra_mother::Mother;
+
+/// How many places are taken in a turn: a multiple of the places in most patterns, so that a loop of this length needs
+/// no division.
+pub const TURN: usize = 12;
 
 /// The sent word of `message`, which has `STEPS - 4` bits: of the message and four tail bits 0 behind
 /// it, the mother bits at the places of the plan, `SENT` bits (EN 300 392-2 clause 8.2.3).
@@ -15,41 +22,51 @@ pub fn keep<P: Plan>(message: &Bits) -> Bits
     ensures word { result ≡ word P.plan message.now }
     ensures size { length result ≡ P.SENT }
 {
-    let outputs = P::Code::OUTS;
     let mut sent = Bits::new();
-    let mut state = 0;
-    let mut step = 1;
-    for j in 0..P::SENT {
-        let at = P::place(j + 1) - 1;
-        let reached = at / outputs + 1;
-        state = advance(message, state, step, reached);
-        step = reached;
-        let all = outs::<P::Code>(state, tailed_bit(message, step));
-        sent.push(all[at % outputs]);
-    }
+    keep_into::<P>(message, &mut sent);
     sent
 }
 
-/// The bit of step `step`, counted from 1: a bit of the message, or a tail bit behind it.
-#[tactic(auto, unfolding(crate::specs::Plan::tailed))]
-fn tailed_bit(message: &Bits, step: usize) -> bool
-    requires { 1 ≤ step }
-    ensures { result ≡ bit_back (tailed message.now) step 0 }
+/// The answer of `keep`, written into `sent` in place of what stood there.
+pub fn keep_into<P: Plan>(message: &Bits, sent: &mut Bits)
+    requires sound { P.IsSound }
+    requires size { IsMessage P.plan message.now }
+    ensures word { sent.new ≡ word P.plan message.now }
+    ensures size { length sent.new ≡ P.SENT }
 {
-    step <= message.len() && message.get(step - 1)
+    let outputs = outputs_of::<P::Code>(message);
+    sent.resize(P::SENT);
+    let turns = P::SENT / TURN;
+    for turn in 0..turns {
+        write::<P>(&outputs, sent, TURN * turn, TURN);
+    }
+    write::<P>(&outputs, sent, TURN * turns, P::SENT - TURN * turns);
 }
 
-/// The state before step `to`, from that before step `from`.
-fn advance(message: &Bits, mut state: u8, from: usize, to: usize) -> u8
-    requires small { state < 16 }
-    requires first { 1 ≤ from }
-    requires order { from ≤ to }
-    requires before { state ≡ state_before (tailed message.now) from }
-    ensures small { result < 16 }
-    ensures after { result ≡ state_before (tailed message.now) to }
+/// Writes so many sent bits, from bit `first` on, which counts from 0.
+fn write<P: Plan>(outputs: &Outputs, sent: &mut Bits, first: usize, count: usize)
+    requires sound { P.IsSound }
+    requires last { first + count ≤ P.SENT }
+    requires size { length sent.old ≡ P.SENT }
+    ensures size { length sent.new ≡ P.SENT }
+    ensures written { (m : List Bool) → AreOutputs P.plan.taps P.plan.outs m outputs.now
+        → Begins (sent_bit P.plan m) false first sent.old → Begins (sent_bit P.plan m) false (first + count) sent.new }
 {
-    for step in from..to {
-        state = next(state, tailed_bit(message, step));
+    for i in 0..count {
+        let place = P::place(first + i + 1);
+        sent.set(first + i, mother_bit::<P>(outputs, place));
     }
-    state
+}
+
+/// The bit at a place of the mother word.
+fn mother_bit<P: Plan>(outputs: &Outputs, place: usize) -> bool
+    requires sound { P.IsSound }
+    requires first { 1 ≤ place }
+    requires last { place ≤ P.plan.outs * P.plan.steps }
+    ensures { (m : List Bool) → AreOutputs P.plan.taps P.plan.outs m outputs.now
+        → result ≡ mother_bit P.plan.taps P.plan.outs (tailed m) place }
+{
+    let outs = P::Code::OUTS;
+    let at = place - 1;
+    outputs[at % outs][at / outs]
 }

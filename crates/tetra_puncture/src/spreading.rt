@@ -1,9 +1,9 @@
 // Soft values at the places of the mother word.
-ghost use Rattle.std.specs.Prelude.{◌≡◌, ◌<◌, ◌≤◌, ℕ, length, pos};
-ghost use Rattle.tetra_bits.specs.Soft.{value_at};
-ghost use Rattle.tetra_puncture.specs.Spread.{IsSpread, spread_values};
+ghost use Rattle.std.specs.Prelude.{◌≡◌, ◌<◌, ◌≤◌, ◌+◌, length};
+ghost use Rattle.tetra_puncture.specs.Spread.{IsSpread, IsSpreadTo, spread_values};
 
 use crate::plan::Plan;
+use crate::sending::TURN;
 use tetra_bits::{Soft, Wide};
 use tetra_mother::Mother;
 
@@ -15,24 +15,36 @@ pub fn spread<P: Plan>(soft: &Soft) -> Wide
     ensures placed { IsSpread P.plan soft.now result }
 {
     let mut wide = Wide::new();
-    for j in 0..P::SENT {
-        let place = P::place(j + 1);
-        fill(&mut wide, place - 1);
-        wide.push(soft.get(j));
-    }
-    fill(&mut wide, P::Code::OUTS * P::STEPS);
+    spread_into::<P>(soft, &mut wide);
     wide
 }
 
-/// Appends zeros up to the length `size`.
-fn fill(wide: &mut Wide, size: usize)
-    requires order { length wide.old ≤ size }
-    requires fits { size ≤ 1168 }
-    ensures size { length wide.new ≡ size }
-    ensures front { (k : ℕ) → k < length wide.old → value_at wide.new k ≡ value_at wide.old k }
-    ensures zeros { (k : ℕ) → length wide.old ≤ k → k < size → value_at wide.new k ≡ pos 0 }
+/// The answer of `spread`, written into `wide` in place of what stood there.
+pub fn spread_into<P: Plan>(soft: &Soft, wide: &mut Wide)
+    requires sound { P.IsSound }
+    requires size { length soft.now ≡ P.SENT }
+    ensures values { wide.new ≡ spread_values P.plan soft.now }
+    ensures placed { IsSpread P.plan soft.now wide.new }
 {
-    for _k in wide.len()..size {
-        wide.push(0);
+    *wide = Wide::new();
+    wide.resize(P::Code::OUTS * P::STEPS);
+    let turns = P::SENT / TURN;
+    for turn in 0..turns {
+        put::<P>(soft, wide, TURN * turn, TURN);
+    }
+    put::<P>(soft, wide, TURN * turns, P::SENT - TURN * turns);
+}
+
+/// Writes so many values at their places, from value `first` on, which counts from 0.
+fn put<P: Plan>(soft: &Soft, wide: &mut Wide, first: usize, count: usize)
+    requires sound { P.IsSound }
+    requires size { length soft.now ≡ P.SENT }
+    requires last { first + count ≤ P.SENT }
+    requires placed { IsSpreadTo P.plan soft.now first wide.old }
+    ensures placed { IsSpreadTo P.plan soft.now (first + count) wide.new }
+{
+    for i in 0..count {
+        let place = P::place(first + i + 1);
+        wide.set(place - 1, soft.get(first + i));
     }
 }

@@ -1,3 +1,3 @@
-pub mod Ways
 pub mod Back
+pub mod Followed
 pub mod Shown

@@ -4,6 +4,7 @@
 
 ghost use Rattle.std.specs.Prelude.{◌≡◌, ◌≤◌, ◌+◌, length};
 
+pub mod lanes;
 mod rows;
 mod solving;
 mod tracing;

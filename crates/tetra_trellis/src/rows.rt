@@ -1,76 +1,79 @@
-// The rows of the potentials, each from the next.
-ghost use Rattle.std.specs.Prelude.{◌≡◌, ◌<◌, ◌≤◌, ◌+◌, ◌*◌, ◌^◌, ℕ, Bool, min, length, slice_index};
-ghost use Rattle.tetra_bits.specs.Readings.{entry};
+// The rows of the potentials, each from the next, and the marks of the free steps.
+ghost use Rattle.std.specs.Prelude.{◌≡◌, ◌<◌, ◌≤◌, ◌+◌, ◌*◌, ◌^◌, ℕ, true, IsTrue, length};
 ghost use Rattle.tetra_bits.specs.Soft.{AllSoft};
-ghost use Rattle.tetra_mother.specs.Mother.{next_state};
-ghost use Rattle.tetra_puncture.specs.Decoding.{IsBackward, least_branch};
+ghost use Rattle.tetra_puncture.specs.Butterflies.{HasMasks, IsPaired, MarkedFrom};
+ghost use Rattle.tetra_puncture.specs.Decoding.{BackFrom, IsBackward};
 ghost use Rattle.tetra_puncture.specs.Labels.{HasLabels};
 
+use crate::lanes::lane_row;
 use tetra_bits::{Potentials, Wide};
-use tetra_mother::next;
-use tetra_puncture::{Labels, Plan, branch_costs};
+use tetra_puncture::{Labels, MarkedRow, Plan, is_paired};
 
-/// The costs of the branches with `bit`, each with the entry of the next row to which it leads.
-fn ways(costs: &[u32; 16], after: &[u32; 16], bit: bool) -> [u32; 16]
-    requires small { (s : ℕ) → s < 16 → slice_index costs.now s ≤ 2 ^ 17 }
-    requires room { (s : ℕ) → s < 16 → slice_index after.now s ≤ 2 ^ 31 }
-    ensures { (s : ℕ) → s < 16
-        → slice_index result s ≡ slice_index costs.now s + slice_index after.now (next_state s bit) }
-{
-    let mut row = [0; 16];
-    for state in 0..16u8 {
-        let at = usize::from(state);
-        row[at] = costs[at] + after[usize::from(next(state, bit))];
-    }
-    row
-}
-
-/// The lesser of two rows, state by state.
-fn lesser(zero: &[u32; 16], one: &[u32; 16]) -> [u32; 16]
-    ensures { (s : ℕ) → s < 16 → slice_index result s ≡ min (slice_index zero.now s) (slice_index one.now s) }
-{
-    let mut row = [0; 16];
-    for at in 0..16 {
-        row[at] = zero[at].min(one[at]);
-    }
-    row
-}
-
-/// The row before step `t`, from the row behind it.
-fn row_before<P: Plan>(wide: &Wide, labels: &Labels, potentials: &Potentials, t: usize) -> [u32; 16]
-    requires sound { P.IsSound }
-    requires size { length wide.now ≡ P.plan.outs * P.plan.steps }
-    requires labels { HasLabels P.plan.taps P.plan.outs labels.now }
-    requires rows { length potentials.now ≡ P.plan.steps + 1 }
-    requires step { t < P.plan.steps }
-    requires room { (s : ℕ) → s < 16 → entry potentials.now (t + 1) s ≤ 2 ^ 31 }
-    ensures { (s : ℕ) → s < 16 → slice_index result s ≡ least_branch P.plan wide.now potentials.now t s }
-{
-    let costs = branch_costs::<P>(wide, labels, t);
-    let after = potentials.row(t + 1);
-    let zero = ways(&costs.zero, after, false);
-    if t + 4 < P::STEPS {
-        lesser(&zero, &ways(&costs.one, after, true))
-    } else {
-        zero
-    }
-}
-
-/// Fills the table with the costs to go, from the end backwards.
-pub fn fill<P: Plan>(wide: &Wide, labels: &Labels, potentials: &mut Potentials)
+/// Fills the table with the costs to go, and marks the states of each free step at which bit 0 gives the entry.
+pub fn fill<P: Plan>(
+    wide: &Wide,
+    labels: &Labels,
+    potentials: &mut Potentials,
+    marks: &mut [u16; 288],
+)
     requires sound { P.IsSound }
     requires size { length wide.now ≡ P.plan.outs * P.plan.steps }
     requires soft { AllSoft wide.now }
     requires labels { HasLabels P.plan.taps P.plan.outs labels.now }
+    requires masks { HasMasks P.plan.taps P.plan.outs labels.now }
     ensures rows { length potentials.new ≡ P.plan.steps + 1 }
     ensures backward { IsBackward P.plan wide.now potentials.new }
-    ensures small { (t s : ℕ) → t ≤ P.plan.steps → s < 16 → entry potentials.new t s ≤ 2 ^ 31 }
+    ensures marks { MarkedFrom P.plan wide.now potentials.new marks.new 0 }
+{
+    if is_paired::<P::Code>() {
+        fill_rows::<P, true>(wide, labels, potentials, marks);
+    } else {
+        fill_rows::<P, false>(wide, labels, potentials, marks);
+    }
+}
+
+/// The same, by the lanes of a code that is paired or of any.
+fn fill_rows<P: Plan, const PAIRED: bool>(
+    wide: &Wide,
+    labels: &Labels,
+    potentials: &mut Potentials,
+    marks: &mut [u16; 288],
+)
+    requires sound { P.IsSound }
+    requires size { length wide.now ≡ P.plan.outs * P.plan.steps }
+    requires soft { AllSoft wide.now }
+    requires labels { HasLabels P.plan.taps P.plan.outs labels.now }
+    requires masks { HasMasks P.plan.taps P.plan.outs labels.now }
+    requires paired { IsTrue PAIRED → IsPaired P.plan.taps P.plan.outs }
+    ensures rows { length potentials.new ≡ P.plan.steps + 1 }
+    ensures backward { IsBackward P.plan wide.now potentials.new }
+    ensures marks { MarkedFrom P.plan wide.now potentials.new marks.new 0 }
+{
+    fill_tail::<P, PAIRED>(wide, labels, potentials);
+    for t in (0..P::STEPS - 4).rev() {
+        let before = lane_row::<P, PAIRED>(wide, labels, t, potentials.row(t + 1));
+        potentials.set_row(t, before.row);
+        marks[t] = before.marks;
+    }
+}
+
+/// Makes the table as long as it has to be, and fills the row behind the last step and those before the last four steps.
+/// A call of its own: with this loop inside, the loop over the free steps would be compiled to slower code.
+#[inline(never)]
+fn fill_tail<P: Plan, const PAIRED: bool>(wide: &Wide, labels: &Labels, potentials: &mut Potentials)
+    requires sound { P.IsSound }
+    requires size { length wide.now ≡ P.plan.outs * P.plan.steps }
+    requires soft { AllSoft wide.now }
+    requires labels { HasLabels P.plan.taps P.plan.outs labels.now }
+    requires masks { HasMasks P.plan.taps P.plan.outs labels.now }
+    requires paired { IsTrue PAIRED → IsPaired P.plan.taps P.plan.outs }
+    ensures { (t : ℕ) → t + 4 ≡ P.plan.steps → BackFrom P.plan wide.now potentials.new t }
 {
     let steps = P::STEPS;
     potentials.resize(steps + 1);
     potentials.set_row(steps, [0; 16]);
-    for t in (0..steps).rev() {
-        let row = row_before::<P>(wide, labels, potentials, t);
-        potentials.set_row(t, row);
+    for t in (steps - 4..steps).rev() {
+        let last = lane_row::<P, PAIRED>(wide, labels, t, potentials.row(t + 1));
+        potentials.set_row(t, last.row);
     }
 }

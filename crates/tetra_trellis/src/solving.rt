@@ -43,8 +43,9 @@ pub fn solve_into<P: Plan>(soft: &Soft, message: &mut Bits, potentials: &mut Pot
 {
     let wide = spread::<P>(soft);
     let labels = Labels::of::<P::Code>();
-    fill::<P>(&wide, &labels, potentials);
-    trace::<P>(&wide, &labels, potentials, message);
+    let mut marks = [0; 288];
+    fill::<P>(&wide, &labels, potentials, &mut marks);
+    trace::<P>(&marks, message);
     let _rows = potentials.rows();
     potentials.at(0, 0)
 }

@@ -110,19 +110,28 @@ sum_past n (suc m) f h none = elim (cases_lt m n) [
       omega arith
 ]
 
--- the cost of a label is that of the step
-pub cost_of_label : (p : CodePlan) (wide values : List ℤ) (costs : List ℕ) (labels : Labels) (t s : ℕ) (b : Bool) → p.outs ≤ 4 →
-    IsStep p.outs wide t values → AreCosts values costs → HasLabels p.taps p.outs labels → s < 16 →
-    get_or costs (label_at labels s b) 0 ≡ step_cost p wide t s b
-unfolding AreCosts HasLabels branch_label step_cost padded_cost sum_below
-cost_of_label p wide values costs labels t s b few step are labelled small =
+-- the costs of four outputs are those of the step
+pub four_outputs : (p : CodePlan) (wide values : List ℤ) (t s : ℕ) (b : Bool) → p.outs ≤ 4 → IsStep p.outs wide t values →
+    cost (get_or values 0 (pos 0)) (branch_output p.taps p.outs s b 0) + cost (get_or values 1 (pos 0)) (branch_output p.taps p.outs s b 1)
+    + cost (get_or values 2 (pos 0)) (branch_output p.taps p.outs s b 2) + cost (get_or values 3 (pos 0)) (branch_output p.taps p.outs s b 3)
+    ≡ step_cost p wide t s b
+unfolding step_cost padded_cost sum_below
+four_outputs p wide values t s b few step =
     let four : sum_below 4 (padded_cost p.taps p.outs values s b) ≡ sum_below p.outs (padded_cost p.taps p.outs values s b) =
     sum_past p.outs 4 (padded_cost p.taps p.outs values s b) few (padded_past p.taps p.outs wide values t s b step) in
     let same : sum_below p.outs (padded_cost p.taps p.outs values s b) ≡ sum_below p.outs (output_cost p wide t s b) =
     sum_same p.outs (padded_cost p.taps p.outs values s b) (output_cost p wide t s b) (padded_within p wide values t s b step) in
+    omega (arith, four, same)
+
+-- the cost of a label is that of the step
+pub cost_of_label : (p : CodePlan) (wide values : List ℤ) (costs : List ℕ) (labels : Labels) (t s : ℕ) (b : Bool) → p.outs ≤ 4 →
+    IsStep p.outs wide t values → AreCosts values costs → HasLabels p.taps p.outs labels → s < 16 →
+    get_or costs (label_at labels s b) 0 ≡ step_cost p wide t s b
+unfolding AreCosts HasLabels branch_label
+cost_of_label p wide values costs labels t s b few step are labelled small =
     ap (λ k. get_or costs k 0) (labelled s b small)
     ∙ are (branch_output p.taps p.outs s b 0) (branch_output p.taps p.outs s b 1) (branch_output p.taps p.outs s b 2) (branch_output p.taps p.outs s b 3)
-    ∙ omega (arith, four, same)
+    ∙ four_outputs p wide values t s b few step
 
 -- one more entry of a list is written
 pub one_more : (f : ℕ → ℕ) (xs : List ℕ) (n i v : ℕ) → i ≡ n → n < length xs → ((s : ℕ) → s < n → get_or xs s 0 ≡ f s) → v ≡ f n →

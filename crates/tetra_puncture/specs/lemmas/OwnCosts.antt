@@ -6,7 +6,7 @@ use Rattle.tetra_bits.specs.Readings.{entry}
 use Rattle.tetra_mother.specs.Mother.{next_state}
 use Rattle.tetra_mother.specs.lemmas.States.{next_small}
 use Rattle.tetra_puncture.specs.Certified.{Fits, CostsToGoAreAccepted}
-use Rattle.tetra_puncture.specs.Decoding.{IsBackward, least_branch}
+use Rattle.tetra_puncture.specs.Decoding.{IsBackward, IsTraced, least_branch}
 use Rattle.tetra_puncture.specs.Plan.{CodePlan, IsMessage}
 use Rattle.tetra_puncture.specs.Rules.{IsAccepted}
 use Rattle.tetra_puncture.specs.Spread.{spread_values}
@@ -86,17 +86,22 @@ module _ (p : CodePlan) (r : List ℤ) where
   backward : IsBackward p wide table
   backward = record { end = end; before = before }
 
+  -- the bit that the costs to go choose
+  choice : ℕ → ℕ → Bool
+  choice t s = not (eqb (entry table t s) (over_branch p wide table t s false))
+
   -- the bits before step t of the message that is traced in the costs to go
-  traced : (t : ℕ) → (m : List Bool) × (s : ℕ) × TracedTo p wide table m s t
-  traced zero = ([], 0, trace_start p wide table)
+  traced : (t : ℕ) → (m : List Bool) × (s : ℕ) × TracedTo choice m s t
+  unfolding choice
+  traced zero = ([], 0, trace_start choice)
   traced (suc t) =
       let so_far = traced t in
       let bit : Bool = not (eqb (entry table t so_far.1) (over_branch p wide table t so_far.1 false)) in
       let next : t + 1 ≡ suc t = omega arith in
-      (so_far.0 ++ bit ∷ [], next_state so_far.1 bit, subst (TracedTo p wide table (so_far.0 ++ bit ∷ []) (next_state so_far.1 bit)) next (trace_step p wide table so_far.0 so_far.1 t bit so_far.2 refl))
+      (so_far.0 ++ bit ∷ [], next_state so_far.1 bit, subst (TracedTo choice (so_far.0 ++ bit ∷ []) (next_state so_far.1 bit)) next (trace_step choice so_far.0 so_far.1 t bit so_far.2 refl))
 
 pub costs_to_go_are_accepted : CostsToGoAreAccepted
-unfolding wide table
+unfolding wide table choice IsTraced
 costs_to_go_are_accepted p r sizes rise lie values =
     let found = traced p r (p.steps - 4) in
     let m : List Bool = found.0 in

@@ -10,7 +10,7 @@ use Rattle.tetra_bits.specs.Soft.{AllSoft}
 use Rattle.tetra_mother.specs.Mother.{next_state}
 use Rattle.tetra_mother.specs.lemmas.States.{next_small}
 use Rattle.tetra_puncture.specs.Plan.{CodePlan, IsMessage}
-use Rattle.tetra_puncture.specs.Decoding.{least_branch, IsBackward, IsTraced}
+use Rattle.tetra_puncture.specs.Decoding.{least_branch, IsBackward, BackFrom, IsTraced}
 use Rattle.tetra_puncture.specs.Rules.{Holds, IsAccepted}
 use Rattle.tetra_puncture.specs.Trellis.{step_cost, IsAllowed, AllCostsToGo, over_branch, bit_taken, state_passed}
 use Rattle.tetra_puncture.specs.declared.rule.Rule.{Rule}
@@ -102,13 +102,6 @@ module _ (p : CodePlan) (wide : List ℤ) (table : List (List ℕ)) (back : IsBa
     unfolding IsAccepted
     traced_accepted = rule_holds
 
--- the rows from t on are made, one from the next
-pub record BackFrom (p : CodePlan) (wide : List ℤ) (rows : List (List ℕ)) (t : ℕ) : Type 0 where
-  pub long : length rows ≡ p.steps + 1
-  pub end : (s : ℕ) → s < 16 → entry rows p.steps s ≡ 0
-  pub before : (u s : ℕ) → t ≤ u → u < p.steps → s < 16 → entry rows u s ≡ least_branch p wide rows u s
-  pub small : (u s : ℕ) → t ≤ u → u ≤ p.steps → s < 16 → entry rows u s ≤ 131072 * (p.steps - u)
-
 pub entry_set_other : (rows : List (List ℕ)) (t u s : ℕ) (new : List ℕ) → u ≢ t → entry (set rows t new) u s ≡ entry rows u s
 unfolding entry
 entry_set_other rows t u s new ne = let e : get_or (set rows t new) u [] ≡ get_or rows u [] = rw get_or-set_other refl in ap (λ l. get_or l s 0) e
@@ -180,16 +173,15 @@ module _ (p : CodePlan) (wide : List ℤ) (rows : List (List ℕ)) (new : List �
     small = new_small;
   }
 
--- the bits before step t, which lead to this state
-pub record TracedTo (p : CodePlan) (wide : List ℤ) (rows : List (List ℕ)) (m : List Bool) (state t : ℕ) : Type 0 where
+-- the bits before step t, which lead to this state, each chosen by its step and the state before it
+pub record TracedTo (choice : ℕ → ℕ → Bool) (m : List Bool) (state t : ℕ) : Type 0 where
   pub long : length m ≡ t
   pub state_is : state ≡ state_passed m t
   pub small : state < 16
-  pub traced : IsTraced p wide rows m
+  pub traced : (k : ℕ) → k < length m → bit_at m k ≡ choice k (state_passed m k)
 
-pub trace_start : (p : CodePlan) (wide : List ℤ) (rows : List (List ℕ)) → TracedTo p wide rows [] 0 0
-unfolding IsTraced
-trace_start p wide rows = record { long = refl; state_is = sym (state_passed_first []); small = omega arith; traced = λ t h. absurd (omega arith) }
+pub trace_start : (choice : ℕ → ℕ → Bool) → TracedTo choice [] 0 0
+trace_start choice = record { long = refl; state_is = sym (state_passed_first []); small = omega arith; traced = λ t h. absurd (omega arith) }
 
 bit_before : (m : List Bool) (b : Bool) (k : ℕ) → k < length m → bit_at (m ++ b ∷ []) k ≡ bit_at m k
 bit_before m b k h = grind (arith, common_steps)
@@ -198,8 +190,7 @@ bit_last : (m : List Bool) (b : Bool) → bit_at (m ++ b ∷ []) (length m) ≡ 
 bit_last m b = grind (arith, common_steps)
 
 -- one more bit
-module _ (p : CodePlan) (wide : List ℤ) (rows : List (List ℕ)) (m : List Bool) (s t : ℕ) (b : Bool) (done : TracedTo p wide rows m s t)
-    (chosen : b ≡ not (eqb (entry rows t s) (over_branch p wide rows t s false))) where
+module _ (choice : ℕ → ℕ → Bool) (m : List Bool) (s t : ℕ) (b : Bool) (done : TracedTo choice m s t) (chosen : b ≡ choice t s) where
   more : List Bool
   more = m ++ b ∷ []
 
@@ -217,25 +208,25 @@ module _ (p : CodePlan) (wide : List ℤ) (rows : List (List ℕ)) (m : List Boo
       let bit : bit_taken more t ≡ b = bit_taken_is more t ∙ last in
       sym (state_passed_more more t ∙ rw (here, bit) refl)
 
-  traced_more : (k : ℕ) → k < length more → bit_at more k ≡ not (eqb (entry rows k (state_passed more k)) (over_branch p wide rows k (state_passed more k) false))
-  unfolding more IsTraced
+  traced_more : (k : ℕ) → k < length more → bit_at more k ≡ choice k (state_passed more k)
+  unfolding more
   traced_more k h =
       let long : length more ≡ length m + 1 = length-append m (b ∷ []) in
       let before : length m ≡ t = done.long in
       elim (cases_lt k t) [
         | inl lt ↦
-            let P : ℕ → Type 0 = λ u. bit_at more k ≡ not (eqb (entry rows k u) (over_branch p wide rows k u false)) in
+            let P : ℕ → Type 0 = λ u. bit_at more k ≡ choice k u in
             subst P (sym (same_state k (omega arith))) (bit_before m b k (omega arith) ∙ done.traced k (omega arith))
         | inr ge ↦
             let e : k ≡ t = omega arith in
             let here : state_passed more t ≡ s = same_state t (omega arith) ∙ sym done.state_is in
-            let P : ℕ → Type 0 = λ u. bit_at more t ≡ not (eqb (entry rows t u) (over_branch p wide rows t u false)) in
-            let Q : ℕ → Type 0 = λ u. bit_at more u ≡ not (eqb (entry rows u (state_passed more u)) (over_branch p wide rows u (state_passed more u) false)) in
+            let P : ℕ → Type 0 = λ u. bit_at more t ≡ choice t u in
+            let Q : ℕ → Type 0 = λ u. bit_at more u ≡ choice u (state_passed more u) in
             subst Q (sym e) (subst P (sym here) (last ∙ chosen))
       ]
 
-  pub trace_step : TracedTo p wide rows (m ++ b ∷ []) (next_state s b) (t + 1)
-  unfolding more IsTraced
+  pub trace_step : TracedTo choice (m ++ b ∷ []) (next_state s b) (t + 1)
+  unfolding more
   trace_step = record {
     long = length-append m (b ∷ []) ∙ (let long : length m ≡ t = done.long in omega arith);
     state_is = state_next;

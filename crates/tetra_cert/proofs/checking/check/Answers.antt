@@ -1,9 +1,13 @@
-use Rattle.std.proofs.Common.{arith, ap, sym, ◌∙◌}
+use Rattle.std.proofs.Common.{arith, ap, sym, refl, subst, ◌∙◌}
 use Rattle.tetra_mother.specs.Mother.{next_state}
 use Rattle.tetra_puncture.specs.lemmas.Steps.{state_passed_first, state_passed_more}
 use Rattle.tetra_puncture.specs.lemmas.Checking.{checked_none, checked_more}
 use Rattle.tetra_puncture.specs.Trellis.{bit_taken}
 use Rattle.tetra_puncture.specs.Certified.{Fits}
+use Rattle.tetra_puncture.specs.Rules.{IsAccepted}
+use Rattle.tetra_puncture.specs.Spread.{spread_values}
+use Rattle.tetra_puncture.specs.lemmas.Certificates.{accepted_is_certified}
+use Rattle.tetra_cert.specs.declared.verdict.Verdict.TheVariants.{Accepted}
 use Rattle.tetra_cert.specs.Checked.{IsRight, IsSound, IsFirstOfStates}
 use Rattle.tetra_cert.specs.lemmas.Places.{right_is_verdict}
 use Rattle.tetra_cert.proofs.Verdicts.{accepted, refused, not_accepted, certified}
@@ -65,3 +69,27 @@ returns-clause-sound g c =
 
 pub returns-clause-value : goal.returns-clause-value
 returns-clause-value g c = right_is_verdict g.P.Plan.plan c.args.soft.now c.args.message.now c.args.potentials.now _ (returns-clause-right g c)
+
+pub returns-then-all_hold : goal.returns-then-all_hold
+unfolding IsRight IsSound
+returns-then-all_hold g c =
+    let law = g.met.P.Plan in
+    let p = g.P.Plan.plan in
+    let r = c.args.soft.now in
+    let m = c.args.message.now in
+    let table = c.args.potentials.now in
+    let fits : Fits p r m = record {
+      sizes = law.sizes c.requires.sound;
+      rise = law.rise c.requires.sound;
+      lie = law.lie c.requires.sound;
+      message = c.requires.message;
+      values = omega (arith, law.same_sent, c.requires.values);
+    } in
+    let ok : IsAccepted p (spread_values p r) m table =
+    subst (λ w. IsAccepted p w m table) c.spread-wide.ensures.values (c.if-all_hold.ensures refl) in
+    record {
+      right = ok;
+      value = right_is_verdict p r m table Accepted ok;
+      sound = accepted_is_certified p r m table fits ok;
+      complete = λ _. refl;
+    }

@@ -2,6 +2,7 @@ use Rattle.std.proofs.Common.{ℕ, ◌≤◌, ◌*◌, ◌+◌, ap, sym, subst, 
 use Rattle.tetra_bits.specs.Readings.{entry}
 use Rattle.tetra_puncture.specs.Certified.{Fits}
 use Rattle.tetra_puncture.specs.Decoding.{IsBackward, IsTraced}
+use Rattle.tetra_puncture.specs.lemmas.Marks.{marked_is_traced}
 use Rattle.tetra_trellis.proofs.Shown.{IsSolved, solved}
 use Rattle.tetra_trellis.proofs.solving.solve_into.Goals as goal
 
@@ -21,7 +22,8 @@ returns g c =
     } in
     let all : IsSolved p r m table = solved p r m table fits c.fill.ensures.rows c.rows-rows.ensures.sixteen
     (subst (λ wide. IsBackward p wide table) c.spread-wide.ensures.values c.fill.ensures.backward)
-    (subst (λ wide. IsTraced p wide table m) c.spread-wide.ensures.values c.trace.ensures.traced) in
+    (subst (λ wide. IsTraced p wide table m) c.spread-wide.ensures.values
+    (marked_is_traced p c.spread-wide.result table c.fill.new.marks m c.trace.ensures.message c.fill.ensures.marks c.trace.ensures.marked)) in
     record {
       message = all.message;
       size = c.trace.ensures.message ∙ law.same_steps;

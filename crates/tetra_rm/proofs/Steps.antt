@@ -9,7 +9,7 @@ use Rattle.tetra_bits.specs.Sums.{add2, sum_below}
 use Rattle.tetra_bits.specs.declared.soft.TheConstants.{SOFT_MAX}
 use Rattle.tetra_bits.specs.lemmas.Within.{cost_within, within_at, sum_within}
 
-sum_next : (n : ℕ) (f : ℕ → ℕ) → sum_below (n + 1) f ≡ sum_below n f + f n
+pub sum_next : (n : ℕ) (f : ℕ → ℕ) → sum_below (n + 1) f ≡ sum_below n f + f n
 unfolding sum_below
 sum_next n f = let e : n + 1 ≡ suc n = omega arith in ap (λ k. sum_below k f) e
 
@@ -21,7 +21,7 @@ front_of_sum (suc n) k f h = elim (cases_lt k n) [
   | inr ge ↦ let last : k ≡ n = omega arith in rw last (omega arith)
 ]
 
-soft_sum : (soft : List ℤ) (word : List Bool) (n : ℕ) → AllSoft soft → sum_below n (cost_at soft word) ≤ nat_abs SOFT_MAX * n
+pub soft_sum : (soft : List ℤ) (word : List Bool) (n : ℕ) → AllSoft soft → sum_below n (cost_at soft word) ≤ nat_abs SOFT_MAX * n
 unfolding cost_at
 soft_sum soft word n within = sum_within (nat_abs SOFT_MAX) n (cost_at soft word) (λ k. cost_within (nat_abs SOFT_MAX) _ _ (within_at (nat_abs SOFT_MAX) soft within k))
 

@@ -1,19 +1,20 @@
 -- The word of a message in which one bit is turned.
 use Prim.Native.Nat.{zero, suc}
-use Rattle.std.proofs.Common.{◌≡◌, ◌≢◌, ℕ, ◌+◌, ◌-◌, ◌%◌, ◌<◌, ◌≤◌, inl, inr, Bool, true, false, not, nat_eq, nat_lt, List, ◌++◌, length, get_or, arith, refl, ap, sym, ◌∙◌}
+use Rattle.std.proofs.Common.{◌≡◌, ◌≢◌, ℕ, ◌+◌, ◌-◌, ◌%◌, ◌^◌, ◌<◌, ◌≤◌, inl, inr, Bool, true, false, not, nat_eq, nat_lt, List, [], ◌++◌, length, get_or, arith, refl, ap, sym, ◌∙◌}
 use Rattle.std.specs.Prelude.{cond, slice_index}
 use Rattle.std.proofs.lemmas.Bool.{cases_lt, cases_eq, lt-ltb, le-ltb}
 use Rattle.std.proofs.lemmas.Bool.Decides.{nat_tests}
 use Rattle.std.proofs.lemmas.List.{get_or_append_left, get_or-append_right, get_or-set_same, get_or-set_other, length-set}
 use Rattle.std.proofs.lemmas.Nat.{xor_comm}
-use Rattle.std.proofs.lemmas.Nat.Bits.{bit_at_xor, bit_at-lt}
+use Rattle.std.proofs.lemmas.Nat.Bits.{bit_at_xor, bit_at-lt, bit_at-pow_same, bit_at-pow_other}
 use Rattle.std.specs.Int.{bit_at}
 use Rattle.std.specs.Int.Bits.{bit_xor, xor_assoc, xor_self, xor_zero_l}
 use Rattle.tetra_bits.specs.Digits.{digit, digits}
 use Rattle.tetra_bits.specs.Sums.{add2}
 use Rattle.tetra_rm.specs.Code.{row_part, rows_sum, access_word}
 use Rattle.tetra_rm.specs.Turning.{turned_message, is_changed}
-use Rattle.tetra_rm.specs.lemmas.Numbers.{digit_at}
+use Rattle.tetra_bits.specs.Numbered.{is_numbered}
+use Rattle.tetra_rm.specs.lemmas.Numbers.{digit_at, length-digits}
 
 pub add_one_bit : (b : Bool) → not b ≡ add2 b true
 add_one_bit true = refl
@@ -119,3 +120,33 @@ module _ (rows : List ℕ) (m : List Bool) (r : ℕ) (size : length m ≡ 14) (h
   -- each bit of the word that changes is turned, and the others stay
   pub turned_bit : (k : ℕ) → k < 30 → get_or (access_word rows (turned_message m (r + 1))) k false ≡ add2 (get_or (access_word rows m) k false) (is_changed rows (r + 1) k)
   turned_bit k h = elim (cases_lt k 14) [ inl front ↦ front_bit k front | inr behind ↦ behind_bit k behind h ]
+
+-- a bit of a number turned is that bit of the message turned
+turned_digit : (x r k : ℕ) → r < 14 → k < 14 → get_or (turned_message (digits 14 x) (r + 1)) k false ≡ digit 14 (bit_xor x (2 ^ (13 - r))) (k + 1)
+unfolding digit
+turned_digit x r k here h = elim (cases_eq k r) [
+  | inl e ↦
+      let place : 13 - r ≡ 14 - (k + 1) = omega arith in
+      let old : get_or (digits 14 x) k false ≡ nat_eq (bit_at x (14 - (k + 1))) 1 = digit_at 14 x k h in
+      let one : bit_at (2 ^ (13 - r)) (14 - (k + 1)) ≡ 1 = rw place (bit_at-pow_same (14 - (k + 1))) in
+      let sum : bit_at (bit_xor x (2 ^ (13 - r))) (14 - (k + 1)) ≡ (bit_at x (14 - (k + 1)) + 1) % 2 = bit_at_xor x (2 ^ (13 - r)) (14 - (k + 1)) ∙ ap (λ b. (bit_at x (14 - (k + 1)) + b) % 2) one in
+      ap (λ i. get_or (turned_message (digits 14 x) (r + 1)) i false) e ∙ own_bit [] (digits 14 x) r (length-digits 14 x) here
+      ∙ ap (λ i. not (get_or (digits 14 x) i false)) (sym e) ∙ ap not old ∙ add_one_bit (nat_eq (bit_at x (14 - (k + 1))) 1)
+      ∙ sym (ap (λ b. nat_eq b 1) sum ∙ digit_sum (bit_at x (14 - (k + 1))) 1 (bit_at-lt x (14 - (k + 1))) (omega arith))
+  | inr ne ↦
+      let old : get_or (digits 14 x) k false ≡ nat_eq (bit_at x (14 - (k + 1))) 1 = digit_at 14 x k h in
+      let apart : 14 - (k + 1) ≢ 13 - r = λ e. ne (omega arith) in
+      let none : bit_at (2 ^ (13 - r)) (14 - (k + 1)) ≡ 0 = bit_at-pow_other (13 - r) (14 - (k + 1)) apart in
+      let small : bit_at x (14 - (k + 1)) < 2 = bit_at-lt x (14 - (k + 1)) in
+      let sum : bit_at (bit_xor x (2 ^ (13 - r))) (14 - (k + 1)) ≡ bit_at x (14 - (k + 1)) = bit_at_xor x (2 ^ (13 - r)) (14 - (k + 1)) ∙ omega arith in
+      same_bit [] (digits 14 x) r (length-digits 14 x) here k ne ∙ old ∙ ap (λ b. nat_eq b 1) (sym sum)
+]
+
+pub digits_turned : (x r : ℕ) → r < 14 → turned_message (digits 14 x) (r + 1) ≡ digits 14 (bit_xor x (2 ^ (13 - r)))
+unfolding digits
+digits_turned x r here =
+    is_numbered (digit 14 (bit_xor x (2 ^ (13 - r)))) 14 false (turned_message (digits 14 x) (r + 1)) (length_turned [] (digits 14 x) r (length-digits 14 x) here) (λ k h. turned_digit x r k here h)
+
+-- and its row comes to the sum
+pub turned_sum : (rows : List ℕ) (x r : ℕ) → r < 14 → rows_sum rows (digits 14 (bit_xor x (2 ^ (13 - r)))) 14 ≡ bit_xor (rows_sum rows (digits 14 x) 14) (slice_index rows r)
+turned_sum rows x r here = ap (λ m. rows_sum rows m 14) (sym (digits_turned x r here)) ∙ sum_behind rows (digits 14 x) r (length-digits 14 x) here 14 here

@@ -1,9 +1,11 @@
 //! The access code of 14 message bits and 16 further bits. Its rows are this project's own.
 #![tactic(auto)]
 
-mod costs;
+mod keys;
+mod lanes;
 mod laws;
 mod searching;
+mod sums;
 mod table;
 pub mod walk;
 mod words;

@@ -1,14 +1,16 @@
-// The search for the first-least message.
-ghost use Rattle.std.specs.Prelude.{◌≡◌, ◌<◌, ◌≤◌, ◌+◌, ◌*◌, ◌/◌, ◌%◌, ℕ, ℤ, List, length, slice_index};
+// The search for the first-least message, eight messages side by side: those that differ in their last three bits alone.
+ghost use Rattle.std.specs.Prelude.{◌≡◌, ◌<◌, ◌≤◌, ◌+◌, ◌-◌, ◌*◌, ◌^◌, ℕ, length, slice_index};
 ghost use Rattle.tetra_bits.specs.Digits.{digits};
 ghost use Rattle.tetra_bits.specs.Least.{FirstLeast};
 ghost use Rattle.tetra_bits.specs.Soft.{AllWithin};
 ghost use Rattle.tetra_rm.specs.Code.{access_metric, best_access};
-ghost use Rattle.tetra_rm.specs.Search.{IsFirstAmong, ArePartCosts, AreSmall, AreLowerSums};
+ghost use Rattle.tetra_rm.specs.Search.{IsLeastBelow, IsPart, FitLanes, key_in_middle, key_in_front, key_of_number};
 
-use crate::costs::PartCosts;
+use crate::keys::{fill_lane_keys, message_of, metric_of, no_keys, part_keys};
+use crate::lanes::{added, all_lanes, lesser};
+use crate::sums::part_sums;
 use crate::table::Rows;
-use crate::words::sum_of_rows;
+use std::simd::prelude::*;
 use tetra_bits::Soft;
 
 /// What an access field is read as.
@@ -20,62 +22,139 @@ pub struct RmReading {
     pub metric: u32,
 }
 
-/// The sums of the rows of all messages whose upper seven bits are 0.
-fn lower_sums(rows: &Rows) -> [u16; 128]
-    ensures { AreLowerSums rows.now.0 result }
-{
-    let mut sums = [0; 128];
-    for lower in 0..128u16 {
-        sums[usize::from(lower)] = sum_of_rows(rows, lower);
-    }
-    sums
+/// Some bits of the message: the sums of their rows and what they add to a key.
+#[derive(Drop)]
+struct Part {
+    sums: [u16; 64],
+    keys: [u32; 64],
 }
 
-/// The message of these halves, with the metric of its word, where `sum` is the sum of its rows.
-fn rated(costs: &PartCosts, upper: u16, lower: u16, sum: u16) -> RmReading
-    requires small { AreSmall costs.now }
-    requires halves { (upper < 128) × (lower < 128) }
-    ensures message { result.message ≡ upper * 128 + lower }
-    ensures metric { result.metric
-        ≡ slice_index costs.now.upper upper + slice_index costs.now.lower lower
-        + slice_index costs.now.first (sum / 256) + slice_index costs.now.second (sum % 256) }
+/// The tables of `n` bits of the message from bit `from` on, counted from 0, the last of which stands for `unit`; `n` is
+/// at most 6.
+fn part_tables(rows: &Rows, soft: &Soft, from: usize, n: usize, unit: u32) -> Part
+    requires values { length soft.now ≡ 30 }
+    requires within { AllWithin 4095 soft.now }
+    requires there { from + n ≤ 14 }
+    requires few { n ≤ 6 }
+    requires unit { (unit ≡ 2 ^ (14 - (from + n))) × (unit ≤ 512) }
+    ensures { IsPart rows.now.0 soft.now from n result }
 {
-    RmReading {
-        message: upper * 128 + lower,
-        metric: costs.upper[usize::from(upper)]
-            + costs.lower[usize::from(lower)]
-            + costs.first[usize::from(sum / 256)]
-            + costs.second[usize::from(sum % 256)],
+    Part {
+        sums: part_sums(rows, from, n),
+        keys: part_keys(soft, from, n, unit),
     }
 }
 
-/// The reading of the smaller metric, the first where the metrics are equal.
-fn better(first: RmReading, second: RmReading) -> RmReading
-    ensures first { first.metric ≤ second.metric → result ≡ first }
-    ensures second { second.metric < first.metric → result ≡ second }
+/// What the bits behind eight messages and the bits in the middle add to their keys, where `sum` is that of the rows of
+/// the bits in front, and the bits in the middle are those of `at`.
+fn in_middle(
+    first: &[u32x8; 256],
+    second: &[u32x8; 256],
+    middle: &Part,
+    sum: u16,
+    at: usize,
+) -> u32x8
+    requires lanes { (FitLanes first.now) × (FitLanes second.now) }
+    requires small { slice_index middle.now.keys at < 2 ^ 29 }
+    requires there { at < 64 }
+    ensures long { length result ≡ 8 }
+    ensures keys { (j : ℕ) → j < 8
+        → slice_index result j ≡ key_in_middle first.now second.now middle.now sum j at }
+    ensures small { (j : ℕ) → j < 8 → slice_index result j < 2 ^ 31 }
 {
-    if second.metric < first.metric {
-        second
-    } else {
-        first
-    }
+    let whole = sum ^ middle.sums[at];
+    let keys = added(
+        first[usize::from(whole / 256)],
+        second[usize::from(whole % 256)],
+    );
+    added(keys, all_lanes(middle.keys[at]))
 }
 
-/// The first-least of the 128 messages of this upper half.
-fn best_of_half(rows: &Rows, costs: &PartCosts, sums: &[u16; 128], upper: u16) -> RmReading
-    requires small { AreSmall costs.now }
-    requires sums { AreLowerSums rows.now.0 sums.now }
-    requires upper { upper < 128 }
-    ensures { (soft : List ℤ) → length soft ≡ 30 → ArePartCosts soft costs.now
-        → IsFirstAmong rows.now.0 soft (upper * 128) (upper * 128 + 128) result }
+/// The least of these over all bits in the middle.
+fn least_in_middle(first: &[u32x8; 256], second: &[u32x8; 256], middle: &Part, sum: u16) -> u32x8
+    requires lanes { (FitLanes first.now) × (FitLanes second.now) }
+    requires small { (v : ℕ) → v < 64 → slice_index middle.now.keys v < 2 ^ 29 }
+    ensures long { length result ≡ 8 }
+    ensures least { (j : ℕ) → j < 8
+        → IsLeastBelow (key_in_middle first.now second.now middle.now sum j) 64 (slice_index result j) }
+    ensures small { (j : ℕ) → j < 8 → slice_index result j < 2 ^ 31 }
 {
-    let sum = sum_of_rows(rows, upper * 128);
-    let mut best = rated(costs, upper, 0, sum ^ sums[0]);
-    for lower in 1..128u16 {
-        let whole = sum ^ sums[usize::from(lower)];
-        best = better(best, rated(costs, upper, lower, whole));
+    let mut least = in_middle(first, second, middle, sum, 0);
+    for at in 1..64 {
+        least = lesser(least, in_middle(first, second, middle, sum, at));
     }
-    best
+    least
+}
+
+/// The same and what the bits in front add to their keys, where these are those of `at`.
+fn least_behind(
+    first: &[u32x8; 256],
+    second: &[u32x8; 256],
+    front: &Part,
+    middle: &Part,
+    at: usize,
+) -> u32x8
+    requires lanes { (FitLanes first.now) × (FitLanes second.now) }
+    requires middle { (v : ℕ) → v < 64 → slice_index middle.now.keys v < 2 ^ 29 }
+    requires front { slice_index front.now.keys at < 2 ^ 29 }
+    requires there { at < 32 }
+    ensures long { length result ≡ 8 }
+    ensures least { (j : ℕ) → j < 8 → (f : ℕ → ℕ)
+        → ((m : ℕ) → m < 64
+        → f m ≡ key_in_middle first.now second.now middle.now (slice_index front.now.sums at) j m
+        + slice_index front.now.keys at)
+        → IsLeastBelow f 64 (slice_index result j) }
+    ensures small { (j : ℕ) → j < 8 → slice_index result j < 2 ^ 31 + 2 ^ 29 }
+{
+    let least = least_in_middle(first, second, middle, front.sums[at]);
+    added(least, all_lanes(front.keys[at]))
+}
+
+/// The least of these over all bits in front.
+fn least_in_front(first: &[u32x8; 256], second: &[u32x8; 256], front: &Part, middle: &Part) -> u32x8
+    requires lanes { (FitLanes first.now) × (FitLanes second.now) }
+    requires front { (v : ℕ) → v < 32 → slice_index front.now.keys v < 2 ^ 29 }
+    requires middle { (v : ℕ) → v < 64 → slice_index middle.now.keys v < 2 ^ 29 }
+    ensures long { length result ≡ 8 }
+    ensures least { (j : ℕ) → j < 8
+        → IsLeastBelow (key_in_front first.now second.now front.now middle.now j) 2048 (slice_index result j) }
+    ensures small { (j : ℕ) → j < 8 → slice_index result j < 2 ^ 31 + 2 ^ 29 }
+{
+    let mut least = least_behind(first, second, front, middle, 0);
+    for at in 1..32 {
+        least = lesser(least, least_behind(first, second, front, middle, at));
+    }
+    least
+}
+
+/// The least of eight keys, to each of which `last` adds something.
+fn least_lane(keys: &[u32; 8], last: &[u32; 64]) -> u32
+    requires keys { (j : ℕ) → j < 8 → slice_index keys.now j < 2 ^ 31 + 2 ^ 29 }
+    requires last { (j : ℕ) → j < 8 → slice_index last.now j < 2 ^ 29 }
+    ensures { IsLeastBelow (λ j. slice_index keys.now j + slice_index last.now j) 8 result }
+{
+    let mut least = keys[0] + last[0];
+    for at in 1..8 {
+        least = least.min(keys[at] + last[at]);
+    }
+    least
+}
+
+/// The least key of all messages.
+fn least_key(rows: &Rows, soft: &Soft) -> u32
+    requires values { length soft.now ≡ 30 }
+    requires within { AllWithin 4095 soft.now }
+    ensures { IsLeastBelow (key_of_number rows.now.0 soft.now) 16384 result }
+{
+    let front = part_tables(rows, soft, 0, 5, 512);
+    let middle = part_tables(rows, soft, 5, 6, 8);
+    let last = part_tables(rows, soft, 11, 3, 1);
+    let mut first = no_keys();
+    let mut second = no_keys();
+    fill_lane_keys(soft, 14, &last.sums, 8, &mut first);
+    fill_lane_keys(soft, 22, &last.sums, 0, &mut second);
+    let least = least_in_front(&first, &second, &front, &middle);
+    least_lane(&least.to_array(), &last.keys)
 }
 
 /// The first-least message over 30 soft values, and its metric: that of the word which costs least, and of equal ones
@@ -88,11 +167,10 @@ pub fn decode(rows: &Rows, soft: &Soft) -> RmReading
     ensures metric { result.metric ≡ access_metric rows.now.0 soft.now (digits 14 result.message) }
     ensures within { (top : ℕ) → AllWithin top soft.now → result.metric ≤ top * 30 }
 {
-    let costs = PartCosts::new(soft);
-    let sums = lower_sums(rows);
-    let mut best = best_of_half(rows, &costs, &sums, 0);
-    for upper in 1..128 {
-        best = better(best, best_of_half(rows, &costs, &sums, upper));
+    let _len = soft.len();
+    let key = least_key(rows, soft);
+    RmReading {
+        message: message_of(key),
+        metric: metric_of(key),
     }
-    best
 }

@@ -1,7 +1,7 @@
 // That the clauses mean the rows, words and messages that were asked for.
 ghost use Rattle.std.specs.Prelude.{◌≡◌, length};
 
-use crate::walk::turned;
+use crate::walk::{decode_by_walk, turned};
 use crate::{Rows, decode, encode, own_rows};
 use tetra_bits::{Bits, Soft};
 
@@ -68,4 +68,17 @@ fn last_bit_turned(rt: HostRuntime) {
     let one = decode(&own_rows(), &soft);
     let metric = turned(&own_rows(), &soft, one.message, one.metric, 14);
     assert_eq!(rt; metric, 12 * 127);
+}
+
+#[test]
+fn walk_reads_the_same(rt: HostRuntime) {
+    let reading = decode_by_walk(&own_rows(), &values(0x0001_1F5F));
+    assert_eq!(rt; (reading.message, reading.metric), (1, 0));
+}
+
+#[test]
+fn message_of_all_parts(rt: HostRuntime) {
+    let word = number(&encode(&own_rows(), 0x2A95));
+    let reading = decode(&own_rows(), &values(word ^ 0x0101_0001));
+    assert_eq!(rt; (reading.message, reading.metric), (0x2A95, 3 * 127));
 }

@@ -41,6 +41,30 @@ unfolding digits
 digits_first n d y h l =
     sym (is_numbered (digit (suc n) (d * 2 ^ n + y)) (suc n) false (nat_eq d 1 ∷ digits n y) (ap suc (length-digits n y)) (λ k below. first_entry n d y k h l below))
 
+-- the first digit of any number, and the digits behind it
+next_entry : (n x k : ℕ) → k < suc n → get_or (nat_eq (x / 2 ^ n % 2) 1 ∷ digits n x) k false ≡ digit (suc n) x (k + 1)
+unfolding digit
+next_entry n x zero below = let place : suc n - (zero + 1) ≡ n = omega arith in ap (λ p. nat_eq (x / 2 ^ p % 2) 1) (sym place)
+next_entry n x (suc k) below =
+    let place : suc n - (suc k + 1) ≡ n - (k + 1) = omega arith in
+    digit_at n x k (omega arith) ∙ ap (λ p. nat_eq (x / 2 ^ p % 2) 1) (sym place)
+
+pub digits_cons : (n x : ℕ) → digits (suc n) x ≡ nat_eq (x / 2 ^ n % 2) 1 ∷ digits n x
+unfolding digits
+digits_cons n x = sym (is_numbered (digit (suc n) x) (suc n) false (nat_eq (x / 2 ^ n % 2) 1 ∷ digits n x) (ap suc (length-digits n x)) (next_entry n x))
+
+-- the last n digits of a number
+low_bit : (n x i : ℕ) → i < n → bit_at x i ≡ bit_at (x % 2 ^ n) i
+low_bit n x i h =
+    let whole : x ≡ x / 2 ^ n * 2 ^ n + x % 2 ^ n = omega (arith, pow_pos n) in
+    ap (λ y. bit_at y i) whole ∙ bit_at_cat_low (x / 2 ^ n) n (x % 2 ^ n) i h
+
+pub digits_low : (n x y : ℕ) → x % 2 ^ n ≡ y % 2 ^ n → digits n x ≡ digits n y
+unfolding digits digit
+digits_low n x y same =
+    is_numbered (digit n y) n false (digits n x) (length-digits n x)
+    (λ k h. digit_at n x k h ∙ ap (λ b. nat_eq b 1) (low_bit n x (n - (k + 1)) (omega arith) ∙ ap (λ z. bit_at z (n - (k + 1))) same ∙ sym (low_bit n y (n - (k + 1)) (omega arith))))
+
 -- the number of a list of bits
 unfoldable pub number_of : List Bool → ℕ
 number_of [] = 0

@@ -17,7 +17,7 @@ use Rattle.tetra_settings.specs.declared.slots.SlotUse.TheVariants.{Traffic}
 use Rattle.tetra_settings.specs.declared.readings.Field.{Field}
 use Rattle.tetra_settings.specs.declared.readings.SlotReading.{SlotReading}
 use Rattle.tetra_session.specs.Fronts.{IsFrontField, IsFront, IsBounded}
-use Rattle.tetra_session.specs.Heard.{letter_heard, place_values, values_of, block_heard, field_heard, field_of_place, fields_heard, slot_front, slot_reading}
+use Rattle.tetra_session.specs.Heard.{letter_heard, second_stolen, place_values, values_of, block_heard, field_heard, field_of_place, fields_heard, slot_front, slot_reading}
 use Rattle.tetra_session.specs.Readers.{read_field, read_front}
 use Rattle.tetra_session.specs.Spots.{places_of, FitsSpot, ArePlaces}
 use Rattle.tetra_session.specs.Time.{depth}
@@ -33,13 +33,6 @@ front_made byte fields = record { letter = byte; fields = fields }
 
 abbrev pub reading_made : ℕ → ArrayVec Field → SlotReading
 reading_made byte fields = record { letter = byte; fields = fields }
-
--- a list of so many entries, written over as a whole
-pub written_over : {X Y : Type 0} (f : X → Y) (v : ArrayVec Y) (xs : List X) (ys : List Y) (n : ℕ) → ys ≡ map f xs → length v.items ≡ n → n ≡ length xs
-    → (with_items v ys).items ≡ map f xs
-written_over f v xs ys n e long same =
-    let size : length v.items ≡ length ys = omega (arith, ap length e, length-map xs f) in
-    take-append-le (length v.items) ys (drop (length ys) v.items) (omega arith) ∙ take_all (length v.items) ys (omega arith) ∙ e
 
 -- the names of fields that are made of places
 module _ (law : FieldsHaveSizes) (dir : Dir) (key : List Bool) (block : Option (List ℤ)) (soft : List ℤ) (size : length soft ≡ 510)
@@ -94,7 +87,7 @@ module _ (law : FieldsHaveSizes) (settings : Settings) (key : List Bool) (block 
 module _ (settings s : Settings) (history : List (List ℤ)) (soft : List ℤ) (turn byte : ℕ) (letter : Letter) (key : List Bool)
     (block : Option (List ℤ)) (places : List Place) (same : s ≡ settings) (turns : turn ≡ length history) (keyed : key ≡ key_of s.colour)
     (lettered : letter ≡ letter_heard s turn soft) (bytes : byte ≡ byte_of letter)
-    (placed : places ≡ places_of s.dir letter (mode_of s turn))
+    (placed : places ≡ places_of s.dir letter (mode_of s turn) (second_stolen s.dir key soft))
     (blocked : use_of settings (length history) ≡ Traffic → 1 ≤ depth (mode_of settings (length history)) → block ≡ block_heard settings history soft) where
   letter_is : letter ≡ letter_heard settings (length history) soft
   letter_is = lettered ∙ ap (λ z. letter_heard z turn soft) same ∙ ap (λ t. letter_heard settings t soft) turns
@@ -105,17 +98,23 @@ module _ (settings s : Settings) (history : List (List ℤ)) (soft : List ℤ) (
   key_is : key ≡ key_of settings.colour
   key_is = keyed ∙ ap (λ z. key_of z.colour) same
 
+  stolen_is : second_stolen s.dir key soft ≡ second_stolen settings.dir (key_of settings.colour) soft
+  stolen_is = ap (λ k. second_stolen s.dir k soft) key_is ∙ ap (λ z. second_stolen z.dir (key_of settings.colour) soft) same
+
   abbrev all : List Place
-  all = places_of settings.dir (letter_heard settings (length history) soft) (mode_of settings (length history))
+  all =
+      places_of settings.dir (letter_heard settings (length history) soft) (mode_of settings (length history))
+      (second_stolen settings.dir (key_of settings.colour) soft)
 
   places_are : places ≡ all
   places_are =
-      placed ∙ ap (λ l. places_of s.dir l (mode_of s turn)) letter_is
-      ∙ ap (λ z. places_of z.dir (letter_heard settings (length history) soft) (mode_of z turn)) same
-      ∙ ap (λ t. places_of settings.dir (letter_heard settings (length history) soft) (mode_of settings t)) turns
+      placed ∙ ap (places_of s.dir letter (mode_of s turn)) stolen_is
+      ∙ ap (λ l. places_of s.dir l (mode_of s turn) (second_stolen settings.dir (key_of settings.colour) soft)) letter_is
+      ∙ ap (λ z. places_of z.dir (letter_heard settings (length history) soft) (mode_of z turn) (second_stolen settings.dir (key_of settings.colour) soft)) same
+      ∙ ap (λ t. places_of settings.dir (letter_heard settings (length history) soft) (mode_of settings t) (second_stolen settings.dir (key_of settings.colour) soft)) turns
 
   block_gives : map (field_heard settings.dir (key_of settings.colour) block soft) all ≡ map (field_heard settings.dir (key_of settings.colour) (block_heard settings history soft) soft) all
-  block_gives = fields_same settings (length history) settings.dir (key_of settings.colour) soft block (block_heard settings history soft) blocked
+  block_gives = fields_same settings (length history) settings.dir (key_of settings.colour) soft (second_stolen settings.dir (key_of settings.colour) soft) block (block_heard settings history soft) blocked
 
   pub front_is : (fields : ArrayVec FrontField) → fields.items ≡ map (field_heard s.dir key block soft) places → front_made byte fields ≡ slot_front settings history soft
   unfolding slot_front fields_heard

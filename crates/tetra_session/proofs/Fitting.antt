@@ -7,13 +7,11 @@ use Rattle.tetra_settings.specs.declared.types.Dir.TheVariants.{Dl, Ul}
 use Rattle.tetra_settings.specs.declared.types.Mode.{Mode}
 use Rattle.tetra_settings.specs.declared.types.Mode.TheVariants.{Sig, Cb, D72, D48, D24, Speech}
 use Rattle.tetra_settings.specs.declared.types.Settings.{Settings}
-use Rattle.tetra_settings.specs.declared.slots.Letter.TheVariants.{F, H, S, T, C}
+use Rattle.tetra_settings.specs.declared.slots.Letter.TheVariants.{F, H, S, T, P, Q, C}
 use Rattle.tetra_settings.specs.declared.slots.SlotUse.{SlotUse}
 use Rattle.tetra_settings.specs.declared.slots.SlotUse.TheVariants.{Signalling, Control as ControlUse, Traffic as TrafficUse}
-use Rattle.tetra_settings.specs.declared.blocks.Body.TheVariants.{Full, Halves, Sync, Traffic, Control}
+use Rattle.tetra_settings.specs.declared.blocks.Body.TheVariants.{Full, Halves, Sync, Traffic, Stolen, Both, Control}
 use Rattle.tetra_settings.specs.declared.blocks.SlotBlocks.{SlotBlocks}
-use Rattle.tetra_session.specs.Built.{is_built, is_built_mode}
-use Rattle.tetra_session.specs.lemmas.Modes.{mode_built}
 
 -- what carries a letter
 pub signalling_f : (dir : Dir) (slot : SlotUse) → IsTrue (is_allowed dir slot F) → slot ≡ Signalling
@@ -45,6 +43,20 @@ traffic_t Ul Signalling h = absurd cc
 traffic_t Dl ControlUse h = absurd cc
 traffic_t Ul ControlUse h = absurd cc
 
+pub traffic_p : (dir : Dir) (slot : SlotUse) → IsTrue (is_allowed dir slot P) → slot ≡ TrafficUse
+traffic_p dir TrafficUse h = refl
+traffic_p Dl Signalling h = absurd cc
+traffic_p Ul Signalling h = absurd cc
+traffic_p Dl ControlUse h = absurd cc
+traffic_p Ul ControlUse h = absurd cc
+
+pub traffic_q : (dir : Dir) (slot : SlotUse) → IsTrue (is_allowed dir slot Q) → slot ≡ TrafficUse
+traffic_q dir TrafficUse h = refl
+traffic_q Dl Signalling h = absurd cc
+traffic_q Ul Signalling h = absurd cc
+traffic_q Dl ControlUse h = absurd cc
+traffic_q Ul ControlUse h = absurd cc
+
 pub control_c : (dir : Dir) (slot : SlotUse) → IsTrue (is_allowed dir slot C) → (slot ≡ ControlUse) × (dir ≡ Ul)
 control_c Ul ControlUse h = (refl, refl)
 control_c Dl ControlUse h = absurd cc
@@ -65,11 +77,6 @@ traffic_mode Speech frame h = tt
 mode_of_traffic : (settings : Settings) (t : ℕ) → use_of settings t ≡ TrafficUse → IsTrafficMode (mode_of settings t)
 unfolding use_of
 mode_of_traffic settings t e = traffic_mode (mode_of settings t) (frame_of settings.at t) e
-
--- and one that is built
-mode_is_built : (settings : Settings) (t : ℕ) → is_built settings ≡ true → is_built_mode (mode_of settings t) ≡ true
-unfolding mode_of
-mode_is_built settings t h = mode_built settings (timeslot_of settings.at t - 1) h
 
 -- signalling and control are no traffic
 signalling_no_traffic : (slot : SlotUse) → slot ≡ Signalling → slot ≢ TrafficUse
@@ -126,14 +133,32 @@ module _ (settings : Settings) (t : ℕ) (blocks : SlotBlocks) (fits : Fits sett
       let slot = signalling_s settings.dir (use_of settings t) letter in
       (slot.0, slot.1, lengths.0, lengths.1.0)
 
-  pub fits_traffic : (load : List Bool) → is_built settings ≡ true → blocks.body ≡ Traffic load
-      → (use_of settings t ≡ TrafficUse) × IsTrafficMode (mode_of settings t) × (is_built_mode (mode_of settings t) ≡ true)
+  pub fits_traffic : (load : List Bool) → blocks.body ≡ Traffic load
+      → (use_of settings t ≡ TrafficUse) × IsTrafficMode (mode_of settings t)
       × (length load ≡ load_bits (mode_of settings t) T)
-  fits_traffic load b e =
+  fits_traffic load e =
       let letter = rw e at fits.letter in
       let lengths = rw e at fits.lengths in
       let carries = traffic_t settings.dir (use_of settings t) letter in
-      (carries, mode_of_traffic settings t carries, mode_is_built settings t b, lengths.0)
+      (carries, mode_of_traffic settings t carries, lengths.0)
+
+  pub fits_stolen : (first load : List Bool) → blocks.body ≡ Stolen first load
+      → (use_of settings t ≡ TrafficUse) × IsTrafficMode (mode_of settings t)
+      × (length first ≡ 124) × (length load ≡ load_bits (mode_of settings t) P)
+  fits_stolen first load e =
+      let letter = rw e at fits.letter in
+      let lengths = rw e at fits.lengths in
+      let carries = traffic_p settings.dir (use_of settings t) letter in
+      (carries, mode_of_traffic settings t carries, lengths.0, lengths.1.0)
+
+  pub fits_both : (first second load : List Bool) → blocks.body ≡ Both first second load
+      → (use_of settings t ≡ TrafficUse) × IsTrafficMode (mode_of settings t)
+      × (length first ≡ 124) × (length second ≡ 124) × (length load ≡ load_bits (mode_of settings t) Q)
+  fits_both first second load e =
+      let letter = rw e at fits.letter in
+      let lengths = rw e at fits.lengths in
+      let carries = traffic_q settings.dir (use_of settings t) letter in
+      (carries, mode_of_traffic settings t carries, lengths.0, lengths.1.0, lengths.1.1.0)
 
   pub fits_control : (first second : Option (List Bool)) → blocks.body ≡ Control first second
       → (use_of settings t ≡ ControlUse) × (settings.dir ≡ Ul)

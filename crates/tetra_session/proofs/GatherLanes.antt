@@ -1,7 +1,7 @@
 -- What one timeslot of a receiver keeps, one slot on.
 use Rattle.std.proofs.Common.{ℕ, ◌+◌, ◌-◌, ◌≤◌, ◌≡◌, ◌≢◌, Bool, true, false, List, [], ◌∷◌, ◌++◌, Option, None, Some, ℤ, length, get_or, set, arith, refl, sym, ap, ◌∙◌}
 use Rattle.std.proofs.lemmas.List.{length_push}
-use Rattle.tetra_diag.specs.Diagonal.{gathered, Fills}
+use Rattle.tetra_diag.specs.Diagonal.{gathered}
 use Rattle.tetra_scramble.specs.Key.{key_of}
 use Rattle.tetra_settings.specs.Readings.{traffic_name}
 use Rattle.tetra_settings.specs.Slots.{timeslot_of, mode_of, use_of}
@@ -20,21 +20,6 @@ use Rattle.tetra_session.specs.declared.receiver.Receiver.{Receiver}
 use Rattle.tetra_session.specs.declared.spots.Spot.TheVariants.{WholeSlot}
 use Rattle.tetra_session.specs.lemmas.FourSteps.{four_silent, four_taken, four_now}
 
--- the values at the whole slot are the slot word
-pub word_named : (dir : Dir) (key : List Bool) (mode : Mode) (soft values : List ℤ) (name : FieldName) → name ≡ traffic_name mode Whole
-    → values ≡ place_values dir key soft (place name WholeSlot) → values ≡ word_heard dir key mode soft
-unfolding word_heard
-word_named dir key mode soft values name n v = v ∙ ap (λ k. place_values dir key soft (place k WholeSlot)) n
-
--- what a list that may be filled holds
-pub none_filled : (block : Option (List ℤ)) (filled : Bool) (old new : List ℤ) → filled ≡ false → Fills block filled old new → None ≡ block
-none_filled None filled old new e h = refl
-none_filled (Some v) filled old new e h = absurd (let clash : false ≡ true = sym e ∙ h.0 in cc)
-
-pub some_filled : (block : Option (List ℤ)) (filled : Bool) (old new : List ℤ) → filled ≡ true → Fills block filled old new → Some new ≡ block
-some_filled None filled old new e h = absurd (let clash : true ≡ false = sym e ∙ h.0 in cc)
-some_filled (Some v) filled old new e h = ap Some h.1
-
 -- where nothing is spread every list of words will do
 lane_still : (n : ℕ) (words more : List (List ℤ)) (lane : GatherLane) → n ≡ 0 → GatherLaneStands n words lane → GatherLaneStands n more lane
 lane_still n words more Still e h = h
@@ -48,15 +33,21 @@ pub stands_again : (settings : Settings) (history : List (List ℤ)) (old new : 
 stands_again settings history old new h s t l = record { same = s ∙ h.same; turn = t ∙ h.turn; timeslots = rw l h.timeslots }
 
 -- the slot carries no traffic
+pub silent_now : (settings : Settings) (history : List (List ℤ)) (old : Receiver) → ReceiverStands settings history old
+    → use_of old.settings old.turn ≢ Traffic → use_of settings (length history) ≢ Traffic
+silent_now settings history old h f =
+    let same : use_of old.settings old.turn ≡ use_of settings (length history) = ap (λ z. use_of z old.turn) h.same ∙ ap (use_of settings) h.turn in
+    λ e. f (same ∙ e)
+
 pub stands_silent : (settings : Settings) (history : List (List ℤ)) (soft : List ℤ) (old new : Receiver) → ReceiverStands settings history old
     → new.settings ≡ old.settings → new.turn ≡ old.turn + 1 → new.lanes ≡ old.lanes → use_of old.settings old.turn ≢ Traffic → ReceiverStands settings (history ++ soft ∷ []) new
-stands_silent settings history soft old new h s t l f =
-    let same : use_of old.settings old.turn ≡ use_of settings (length history) = ap (λ z. use_of z old.turn) h.same ∙ ap (use_of settings) h.turn in
-    record {
-      same = s ∙ h.same;
-      turn = t ∙ ap (λ k. k + 1) h.turn ∙ sym (length_push history soft);
-      timeslots = rw l (four_silent GatherLaneStands (word_heard settings.dir (key_of settings.colour)) Still settings history soft old.lanes lane_still (λ e. f (same ∙ e)) h.timeslots);
-    }
+stands_silent settings history soft old new h s t l f = record {
+  same = s ∙ h.same;
+  turn = t ∙ ap (λ k. k + 1) h.turn ∙ sym (length_push history soft);
+  timeslots = rw l
+      (four_silent GatherLaneStands (word_heard settings.dir (key_of settings.colour)) Still settings history soft old.lanes lane_still
+      (silent_now settings history old h f) h.timeslots);
+}
 
 -- a slot of traffic is taken into the lane of its timeslot
 module _ (settings : Settings) (history : List (List ℤ)) (soft : List ℤ) (old : Receiver) (key : List Bool) (mode : Mode) (c : ℕ) (seen : GatherLane)

@@ -6,7 +6,6 @@ use Rattle.tetra_settings.specs.declared.types.Mode.{Mode}
 use Rattle.tetra_settings.specs.declared.types.Mode.TheVariants.{Sig}
 use Rattle.tetra_settings.specs.declared.types.Settings.{Settings}
 use Rattle.tetra_settings.specs.declared.slots.SlotUse.TheVariants.{Traffic as TrafficUse}
-use Rattle.tetra_settings.specs.declared.blocks.Body.TheVariants.{Traffic}
 use Rattle.tetra_settings.specs.declared.blocks.SlotBlocks.{SlotBlocks}
 use Rattle.tetra_session.specs.Sent.{SpreadLaneStands, SenderStands, block_sent, blocks_sent, data_block, load_of}
 use Rattle.tetra_session.specs.Time.{timeslot_mode, depth}
@@ -41,14 +40,14 @@ stands_silent settings history x old new h s n l f =
 -- the slot carries the next load of its timeslot
 pub stands_taken : (settings : Settings) (history : List SlotBlocks) (x : SlotBlocks) (old new : Sender) (c : ℕ) (mode : Mode) (load : List Bool) (seen lane : SpreadLane)
     → SenderStands settings history old → new.settings ≡ old.settings → new.turn ≡ old.turn + 1 → c ≡ timeslot_of old.settings.at old.turn → 1 ≤ c → c ≤ 4
-    → mode ≡ mode_of old.settings old.turn → new.lanes ≡ set old.lanes (c - 1) lane → length old.lanes ≡ 4 → use_of old.settings old.turn ≡ TrafficUse → x.body ≡ Traffic load
+    → mode ≡ mode_of old.settings old.turn → new.lanes ≡ set old.lanes (c - 1) lane → length old.lanes ≡ 4 → use_of old.settings old.turn ≡ TrafficUse → load_of x.body ≡ load
     → ((before : List (List Bool)) → SpreadLaneStands (depth mode) before (get_or old.lanes (c - 1) seen) → SpreadLaneStands (depth mode) (before ++ data_block mode load ∷ []) lane)
     → SenderStands settings (history ++ x ∷ []) new
 stands_taken settings history x old new c mode load seen lane h s n t low high m l z f b step =
     let carries : use_of settings (length history) ≡ TrafficUse = rw (← h.same, ← h.turn) f in
     let here : c ≡ timeslot_of settings.at (length history) = rw (← h.same, ← h.turn) t in
     let at : mode ≡ timeslot_mode settings c = rw (h.same, h.turn) at m ∙ mode_here settings c (length history) here in
-    let brings : data_block (timeslot_mode settings c) (load_of x.body) ≡ data_block (timeslot_mode settings c) load = ap (λ body. data_block (timeslot_mode settings c) (load_of body)) b in
+    let brings : data_block (timeslot_mode settings c) (load_of x.body) ≡ data_block (timeslot_mode settings c) load = ap (data_block (timeslot_mode settings c)) b in
     record {
       same = s ∙ h.same;
       turn = n ∙ ap (λ k. k + 1) h.turn ∙ sym (length_push history x);

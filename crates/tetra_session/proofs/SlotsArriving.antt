@@ -1,8 +1,6 @@
 -- What is read of undamaged slots.
-use Rattle.std.proofs.Common.{ℕ, ℤ, ◌≡◌, ◌+◌, ◌<◌, Bool, true, false, List, ◌++◌, length, map, get_or, take, drop, Option, Some, None, IfSome, arith, refl, ap, sym, subst, ◌∙◌}
-use Rattle.std.proofs.lemmas.List.{length-take-le, length-drop, take-append-drop}
+use Rattle.std.proofs.Common.{ℕ, ℤ, ◌≡◌, ◌+◌, ◌<◌, inl, inr, Bool, true, false, List, ◌∷◌, ◌++◌, length, map, get_or, take, drop, Option, Some, None, IfSome, arith, refl, ap, sym, subst, ◌∙◌}
 use Rattle.tetra_bits.specs.Digits.{digits}
-use Rattle.tetra_bits.specs.Numbered.{length-numbered}
 use Rattle.tetra_bits.specs.Undamaged.{IsUndamaged}
 use Rattle.tetra_bits.specs.declared.reading.Mark.TheVariants.{Good, Unchecked}
 use Rattle.tetra_bursts.specs.Arrives.{FieldsArrive, KindArrives, KeepsControlUp}
@@ -11,27 +9,21 @@ use Rattle.tetra_bursts.specs.Kind.{kind}
 use Rattle.tetra_bursts.specs.Fields.{first_half, second_half, sync_field, aach_field, aach_sync, sub_first, sub_second}
 use Rattle.tetra_bursts.specs.declared.table.Train.{Train}
 use Rattle.tetra_bursts.specs.declared.table.Train.TheVariants.{N, P as PTrain, Y}
-use Rattle.tetra_bursts.specs.lemmas.Joined.{undamaged_both}
-use Rattle.tetra_channels.specs.Channels.{Channel, bsch, hu, half, full, data48, data24, message_of, type4_bits, type5_bits, word_bits, front_values, raw_bits, access_bits}
-use Rattle.tetra_channels.specs.Fields.{coded_reading}
-use Rattle.tetra_channels.specs.Laws.{UndamagedIsRead, UndamagedRawIsRead, UndamagedAccessIsRead, written_reading, written_plain}
-use Rattle.tetra_interleave.specs.Placed.{placed}
+use Rattle.tetra_channels.specs.Channels.{bsch, hu, half, full, message_of, type5_bits, raw_bits, access_bits}
+use Rattle.tetra_channels.specs.Laws.{UndamagedIsRead, UndamagedRawIsRead, NoneWrongRawIsRead, UndamagedAccessIsRead}
 use Rattle.tetra_parity.specs.Marks.{good_mark}
-use Rattle.tetra_parity.specs.Parity.{width}
-use Rattle.tetra_rm.specs.lemmas.Words.{length-access_word}
-use Rattle.tetra_scramble.specs.Flips.{flipped, turned, FlippedBack, StaysUndamaged}
+use Rattle.tetra_scramble.specs.Flips.{flipped, FlippedBack, StaysUndamaged}
 use Rattle.tetra_scramble.specs.Key.{key_of, zero_key_bits}
-use Rattle.tetra_scramble.specs.lemmas.Entries.{length-flipped}
 use Rattle.tetra_settings.specs.Readings.{traffic_name}
 use Rattle.tetra_settings.specs.Slots.{byte_of, timeslot_of, use_of, mode_of}
-use Rattle.tetra_settings.specs.Blocks.{Fits, letter_of}
+use Rattle.tetra_settings.specs.Blocks.{Fits, FitsAccess, letter_of}
 use Rattle.tetra_settings.specs.declared.types.Dir.{Dir}
 use Rattle.tetra_settings.specs.declared.types.Dir.TheVariants.{Dl, Ul}
 use Rattle.tetra_settings.specs.declared.types.Mode.{Mode}
-use Rattle.tetra_settings.specs.declared.types.Mode.TheVariants.{Sig, Cb, D72, D48, D24, Speech}
+use Rattle.tetra_settings.specs.declared.types.Mode.TheVariants.{D72, Speech}
 use Rattle.tetra_settings.specs.declared.types.Settings.{Settings}
 use Rattle.tetra_settings.specs.declared.slots.Letter.{Letter}
-use Rattle.tetra_settings.specs.declared.slots.Letter.TheVariants.{F, H, S, T, C}
+use Rattle.tetra_settings.specs.declared.slots.Letter.TheVariants.{F, H, S, T, P, Q, C}
 use Rattle.tetra_settings.specs.declared.slots.SlotUse.{SlotUse}
 use Rattle.tetra_settings.specs.declared.slots.SlotUse.TheVariants.{Signalling, Control as ControlUse, Traffic as TrafficUse}
 use Rattle.tetra_settings.specs.declared.blocks.Body.{Body}
@@ -39,117 +31,53 @@ use Rattle.tetra_settings.specs.declared.blocks.Body.TheVariants.{Full, Halves, 
 use Rattle.tetra_settings.specs.declared.blocks.SlotBlocks.{SlotBlocks}
 use Rattle.tetra_settings.specs.declared.readings.Field.{Field}
 use Rattle.tetra_settings.specs.declared.readings.FieldName.{FieldName}
-use Rattle.tetra_settings.specs.declared.readings.FieldName.TheVariants.{Aach, Sync as SyncName, Half as HalfName, Hu as HuName, Full as FullName, D72 as D72Name, Whole as WholeName}
+use Rattle.tetra_settings.specs.declared.readings.FieldName.TheVariants.{Aach, Sync as SyncName, Half as HalfName, Hu as HuName, Full as FullName, D72 as D72Name, Whole as WholeName, Single as SingleName}
 use Rattle.tetra_settings.specs.declared.readings.SlotReading.{SlotReading}
-use Rattle.tetra_speech.specs.Laws.{UndamagedSpeechArrives, UndamagedSpeechIsRead, whole_written}
-use Rattle.tetra_speech.specs.Reading.{whole_reading}
-use Rattle.tetra_speech.specs.Words.{whole_message, whole_type3, whole_type4, whole_front}
-use Rattle.tetra_session.specs.Built.{is_built, is_built_letter}
+use Rattle.tetra_speech.specs.Laws.{UndamagedSpeechArrives, UndamagedSpeechIsRead}
+use Rattle.tetra_speech.specs.Words.{half_message, half_type4}
 use Rattle.tetra_session.specs.Readers.{read_field, read_front}
-use Rattle.tetra_session.specs.Spots.{place, places_of, access_spot, is_downlink, spot_values}
-use Rattle.tetra_session.specs.Heard.{allowed_in, letter_by, letter_heard, field_heard, place_values, fields_heard, block_heard, slot_front, slot_reading}
-use Rattle.tetra_session.specs.Sent.{KeepsSlot, KeepsSlotOf, access_of, load_word, blocks_sent, burst_of, subslot_bits}
+use Rattle.tetra_session.specs.Spots.{place, block_places, load_place, with_load, places_of, access_spot, is_downlink, data_rest, rest_spot, spot_values}
+use Rattle.tetra_session.specs.Heard.{allowed_in, letter_by, letter_heard, second_stolen, field_heard, place_values, fields_heard, block_heard, slot_front, slot_reading}
+use Rattle.tetra_session.specs.Sent.{KeepsSlot, KeepsSlotOf, access_of, load_word, rest_word, blocks_sent, burst_of, subslot_bits}
+use Rattle.tetra_session.specs.declared.front.FrontField.{FrontField}
+use Rattle.tetra_session.specs.declared.spots.Place.{Place}
 use Rattle.tetra_session.specs.declared.spots.Spot.{Spot}
 use Rattle.tetra_session.specs.declared.spots.Spot.TheVariants.{Access, SyncAccess, Sync as SyncSpot, FirstBlock, SecondBlock, WholeSlot, FirstSubslot, SecondSubslot}
-use Rattle.tetra_session.specs.Arrives.{HasField, SubslotRead, BlocksRead, SlotRead, SlotsArrive}
-use Rattle.tetra_session.proofs.Fitting.{fits_full, fits_halves, fits_sync, fits_control, access_there, access_none}
-use Rattle.tetra_session.proofs.FittingData.{CarriesLoad, raw_mode, speech_mode, fits_data}
+use Rattle.tetra_session.specs.Arrives.{HasField, HasFieldUpTo, SubslotRead, BlocksRead, AccessRead, SlotRead, SlotsArrive, letter_read}
+use Rattle.tetra_session.proofs.FieldsArriving.{Laws, coded_field, plain_field, up_to_field, speech_field, frame_field, frame_a, frame_b}
+use Rattle.tetra_session.proofs.Fitting.{fits_full, fits_halves, fits_sync, fits_traffic, fits_stolen, fits_both, fits_control, access_there, access_none}
+use Rattle.tetra_session.proofs.FittingData.{CarriesLoad, raw_mode, speech_mode}
+use Rattle.tetra_session.proofs.TrafficKept.{TrafficKept, traffic_kept, n_may, p_may, letter_in_traffic, joined, rest_kept, stolen_there}
+use Rattle.tetra_session.proofs.WordSizes.{coded_size, raw_size, access_size, first_size, second_size, load_size, rest_size}
 
--- how many type-5 bits there are
-coded_size : (channel : Channel) (key block : List Bool) → length (type5_bits channel key block) ≡ channel.plan.sent
-unfolding type5_bits type4_bits placed
-coded_size channel key block = length-flipped _ key 1 ∙ length-numbered _ channel.plan.sent
+-- how many access fields stand in front
+abbrev access_count : Dir → ℕ
+access_count Dl = 1
+access_count Ul = 0
 
-raw_size : (key block : List Bool) → length (raw_bits key block) ≡ length block
-unfolding raw_bits
-raw_size key block = length-flipped block key 1
+-- the field in front stays there whether or not there is a load behind
+front_at : (hear : Place → FrontField) (read : FrontField → Field) (front : Place) (places : List Place) (load : Option Place) (other : Field)
+    → get_or (map read (map hear (with_load (front ∷ places) load))) 0 other ≡ read (hear front)
+front_at hear read front places None other = refl
+front_at hear read front places (Some load) other = refl
 
-pub word_size : (channel : Channel) (key word : List Bool) → length (word_bits channel key word) ≡ channel.plan.sent
-unfolding word_bits placed
-word_size channel key word = length-flipped _ key 1 ∙ length-numbered _ channel.plan.sent
+-- the fields of a whole traffic slot, and of one whose first half is stolen
+traffic_at : (dir : Dir) (hear : Place → FrontField) (read : FrontField → Field) (mode : Mode) (stolen : Bool) (other : Field)
+    → get_or (map read (map hear (places_of dir T mode stolen))) (access_count dir) other ≡ read (hear (place (traffic_name mode WholeName) WholeSlot))
+traffic_at Dl hear read mode stolen other = refl
+traffic_at Ul hear read mode stolen other = refl
 
-speech_size : (key a b : List Bool) → length (flipped (whole_type4 a b) key 1) ≡ 432
-unfolding whole_type4 placed
-speech_size key a b = length-flipped _ key 1 ∙ length-numbered _ 432
+record StolenAt (dir : Dir) (hear : Place → FrontField) (read : FrontField → Field) (mode : Mode) (stolen : Bool) (fields : List Field) (other : Field) : Type 0 where
+  half_1 : get_or fields (access_count dir) other ≡ read (hear (place HalfName FirstBlock))
+  half_2 : get_or fields (access_count dir + 1) other ≡ read (hear (place HalfName SecondBlock))
+  load : get_or fields (access_count dir + 2) other ≡ read (hear (place (traffic_name mode SingleName) (rest_spot mode stolen)))
 
--- the word of a load of data or of speech
-load_size : (key : List Bool) (mode : Mode) (before : List (List Bool)) (load : List Bool) → CarriesLoad mode load → length (load_word key mode before load) ≡ 432
-load_size key D72 before load h = raw_size key load ∙ h
-load_size key (D48 span) before load h = word_size data48 key _
-load_size key (D24 span) before load h = word_size data24 key _
-load_size key Sig before load h = absurd h
-load_size key Cb before load h = absurd h
-load_size key Speech before load h = speech_size key (take 137 load) (take 137 (drop 137 load))
+stolen_at : (dir : Dir) (hear : Place → FrontField) (read : FrontField → Field) (mode : Mode) (stolen : Bool) (other : Field)
+    → StolenAt dir hear read mode stolen (map read (map hear (places_of dir P mode stolen))) other
+stolen_at Dl hear read mode stolen other = record { half_1 = refl; half_2 = refl; load = refl }
+stolen_at Ul hear read mode stolen other = record { half_1 = refl; half_2 = refl; load = refl }
 
-pub access_size : (rows : List ℕ) (key : List Bool) (message : ℕ) → length (access_bits rows key message) ≡ 30
-unfolding access_bits digits
-access_size rows key message = length-flipped _ key 1 ∙ length-access_word rows (digits 14 message) ∙ ap (λ n. n + 16) (length-numbered _ 14)
-
--- a field that is there, by what is read of it
-coded_field : (channel : Channel) → UndamagedIsRead channel → (key block : List Bool) (values : List ℤ) (reading : SlotReading) (i : ℕ) (name : FieldName) (field : Field)
-    → ((other : Field) → get_or reading.fields.items i other ≡ field) → field.name ≡ name → field.reading ≡ coded_reading channel (front_values channel key values)
-    → length block + width channel.parity + 4 ≡ channel.plan.steps → IsUndamaged (type5_bits channel key block) values
-    → HasField reading i name (good_mark channel.parity) (message_of channel block)
-unfolding written_reading
-coded_field channel read key block values reading i name field there named is size u =
-    let e = is ∙ read key block values size u in
-    record { field = field; there = there; name_is = named; mark_is = ap (λ r. r.mark) e; free = ap (λ r. r.metric) e; bits_are = ap (λ r. r.bits) e }
-
-plain_field : (reading : SlotReading) (i : ℕ) (name : FieldName) (field : Field) (bits : List Bool)
-    → ((other : Field) → get_or reading.fields.items i other ≡ field) → field.name ≡ name → field.reading ≡ written_plain bits → HasField reading i name Unchecked bits
-unfolding written_plain
-plain_field reading i name field bits there named e =
-    record { field = field; there = there; name_is = named; mark_is = ap (λ r. r.mark) e; free = ap (λ r. r.metric) e; bits_are = ap (λ r. r.bits) e }
-
--- the two blocks of a word
-module _ (word : List Bool) (size : length word ≡ 432) where
-  pub first_size : length (take 216 word) ≡ 216
-  first_size = length-take-le 216 word (omega arith)
-
-  pub second_size : length (drop 216 word) ≡ 216
-  second_size = let d = length-drop 216 word in omega (arith, d)
-
-  pub joined : (v w : List ℤ) → IsUndamaged (take 216 word) v → IsUndamaged (drop 216 word) w → IsUndamaged word (v ++ w)
-  joined v w a b = subst (λ bits. IsUndamaged bits (v ++ w)) (take-append-drop 216 word) (undamaged_both (take 216 word) (drop 216 word) v w a b)
-
-record Laws : Type 0 where
-  bsch_read : UndamagedIsRead bsch
-  hu_read : UndamagedIsRead hu
-  half_read : UndamagedIsRead half
-  full_read : UndamagedIsRead full
-  raw_read : UndamagedRawIsRead
-  access_read : UndamagedAccessIsRead
-  fields : FieldsArrive
-  kinds : KindArrives
-  back : FlippedBack
-  stays : StaysUndamaged
-  speech_arrives : UndamagedSpeechArrives
-  speech_read : UndamagedSpeechIsRead
-
--- the signs turned back
-undamaged_turned : Laws → (x key : List Bool) (values : List ℤ) → IsUndamaged (flipped x key 1) values → IsUndamaged x (turned values key 1)
-undamaged_turned laws x key values u = subst (λ bits. IsUndamaged bits (turned values key 1)) (laws.back x key 1) (laws.stays (flipped x key 1) values key 1 u)
-
--- a field of speech in a whole slot, by what is read of it
-speech_field : Laws → (key a b : List Bool) (values : List ℤ) (reading : SlotReading) (i : ℕ) (field : Field)
-    → ((other : Field) → get_or reading.fields.items i other ≡ field) → field.name ≡ WholeName → field.reading ≡ whole_reading (whole_front (turned values key 1))
-    → length a ≡ 137 → length b ≡ 137 → IsUndamaged (flipped (whole_type4 a b) key 1) values → HasField reading i WholeName Good (whole_message a b)
-unfolding whole_written
-speech_field laws key a b values reading i field there named is first second u =
-    let type_4 : IsUndamaged (whole_type4 a b) (turned values key 1) = undamaged_turned laws (whole_type4 a b) key values u in
-    let type_3 : IsUndamaged (whole_type3 a b) (whole_front (turned values key 1)) = laws.speech_arrives.whole a b (turned values key 1) type_4 in
-    let e = is ∙ laws.speech_read.whole a b (whole_front (turned values key 1)) first second type_3 in
-    record { field = field; there = there; name_is = named; mark_is = ap (λ r. r.mark) e; free = ap (λ r. r.metric) e; bits_are = ap (λ r. r.bits) e }
-
--- the two frames of a load of speech
-module _ (load : List Bool) (size : length load ≡ 274) where
-  frame_a : length (take 137 load) ≡ 137
-  frame_a = length-take-le 137 load (omega (arith, size))
-
-  frame_b : length (take 137 (drop 137 load)) ≡ 137
-  frame_b = let d = length-drop 137 load in length-take-le 137 (drop 137 load) (omega (arith, size, d))
-
-module _ (laws : Laws) (settings : Settings) (history : List SlotBlocks) (blocks : SlotBlocks) (earlier : List (List ℤ)) (received : List ℤ) (built : is_built settings ≡ true)
+module _ (laws : Laws) (settings : Settings) (history : List SlotBlocks) (blocks : SlotBlocks) (earlier : List (List ℤ)) (received : List ℤ)
     (fits : Fits settings (length history) blocks) (same : length earlier ≡ length history) (kept : KeepsSlot settings history blocks received) where
   abbrev key : List Bool
   key = key_of settings.colour
@@ -172,7 +100,7 @@ module _ (laws : Laws) (settings : Settings) (history : List SlotBlocks) (blocks
   field_at dir name spot = read_field rows (field_heard dir key complete received (place name spot))
 
   abbrev fields_of : Dir → Letter → List Field
-  fields_of dir letter = map (read_field rows) (map (field_heard dir key complete received) (places_of dir letter (mode_of settings (length earlier))))
+  fields_of dir letter = map (read_field rows) (map (field_heard dir key complete received) (places_of dir letter (mode_of settings (length earlier)) (second_stolen dir key received)))
 
   items : (dir : Dir) (letter : Letter) → settings.dir ≡ dir → letter_heard settings (length earlier) received ≡ letter → reading.fields.items ≡ fields_of dir letter
   unfolding slot_reading read_front slot_front fields_heard
@@ -198,11 +126,19 @@ module _ (laws : Laws) (settings : Settings) (history : List SlotBlocks) (blocks
       (subst (λ sent. KeepsSlotOf settings.dir (access_of rows key blocks.aach) (burst_of key (mode_of settings (length history)) before sent) received) e kept)))
 
   -- the access field of a letter that has a normal burst
+  access_at : (letter : Letter) → access_spot letter ≡ Access → settings.dir ≡ Dl → letter_heard settings (length earlier) received ≡ letter → (other : Field)
+      → get_or reading.fields.items 0 other ≡ field_at Dl Aach Access
+  access_at letter spot d e other =
+      ap (λ xs. get_or xs 0 other) (items Dl letter d e)
+      ∙ front_at (field_heard Dl key complete received) (read_field rows) (place Aach (access_spot letter)) (block_places letter)
+      (load_place letter (mode_of settings (length earlier)) (second_stolen Dl key received)) other
+      ∙ ap (field_at Dl Aach) spot
+
   access_read : (letter : Letter) (message : ℕ) → access_spot letter ≡ Access → settings.dir ≡ Dl → letter_heard settings (length earlier) received ≡ letter → message < 16384
       → IsUndamaged (access_bits rows key message) (aach_field received) → HasField reading 0 Aach Unchecked (digits 14 message)
   unfolding read_field field_heard place_values
   access_read letter message spot d e small u =
-      plain_field reading 0 Aach (field_at Dl Aach Access) (digits 14 message) (λ other. ap (λ xs. get_or xs 0 other) (items Dl letter d e) ∙ ap (field_at Dl Aach) spot) refl
+      plain_field reading 0 Aach (field_at Dl Aach Access) (digits 14 message) (access_at letter spot d e) refl
       (laws.access_read rows key message (aach_field received) small u)
 
   sync_access_read : (message : ℕ) → settings.dir ≡ Dl → letter_heard settings (length earlier) received ≡ S → message < 16384
@@ -226,7 +162,7 @@ module _ (laws : Laws) (settings : Settings) (history : List SlotBlocks) (blocks
       let kinds = laws.kinds.kind (blocks_down (take 216 word) access (drop 216 word)) true N (allowed_in Dl Signalling) received sent refl (λ y. refl) in
       let letter = heard_as Dl Signalling N d fit.0 kinds in
       record {
-        letter = lettered F letter ∙ sym (ap (λ b. byte_of (letter_of b)) e);
+        letter = lettered F letter ∙ sym (ap (λ b. byte_of (letter_read (letter_of b))) e);
         fields = rw (e, there.1) (
           access_read F there.0 refl d letter there.2 parts.access,
           coded_field full laws.full_read key block (first_half true received ++ second_half true received) reading 1 FullName (field_at Dl FullName WholeSlot)
@@ -246,7 +182,7 @@ module _ (laws : Laws) (settings : Settings) (history : List SlotBlocks) (blocks
       let kinds = laws.kinds.kind (blocks_up (take 216 word) (drop 216 word)) false N (allowed_in Ul Signalling) received sent refl (λ y. absurd cc) in
       let letter = heard_as Ul Signalling N d fit.0 kinds in
       record {
-        letter = lettered F letter ∙ sym (ap (λ b. byte_of (letter_of b)) e);
+        letter = lettered F letter ∙ sym (ap (λ b. byte_of (letter_read (letter_of b))) e);
         fields = rw (e, none)
             (coded_field full laws.full_read key block (first_half false received ++ second_half false received) reading 0 FullName (field_at Ul FullName WholeSlot)
             (λ other. ap (λ xs. get_or xs 0 other) (items Ul F d letter)) refl refl (omega (arith, fit.1)) (joined word size _ _ parts.block_1 parts.block_2));
@@ -267,7 +203,7 @@ module _ (laws : Laws) (settings : Settings) (history : List SlotBlocks) (blocks
       let kinds = laws.kinds.kind (blocks_down a access b) true PTrain (allowed_in Dl Signalling) received sent refl (λ y. refl) in
       let letter = heard_as Dl Signalling PTrain d fit.0 kinds in
       record {
-        letter = lettered H letter ∙ sym (ap (λ b. byte_of (letter_of b)) e);
+        letter = lettered H letter ∙ sym (ap (λ b. byte_of (letter_read (letter_of b))) e);
         fields = rw (e, there.1) (
           access_read H there.0 refl d letter there.2 parts.access,
           (
@@ -294,7 +230,7 @@ module _ (laws : Laws) (settings : Settings) (history : List SlotBlocks) (blocks
       let kinds = laws.kinds.kind (synchronisation a access b) true Y (allowed_in Dl Signalling) received sent refl (λ y. refl) in
       let letter = heard_as Dl Signalling Y d fit.0 kinds in
       record {
-        letter = lettered S letter ∙ sym (ap (λ b. byte_of (letter_of b)) e);
+        letter = lettered S letter ∙ sym (ap (λ b. byte_of (letter_read (letter_of b))) e);
         fields = rw (e, there.1) (
           sync_access_read there.0 d letter there.2 parts.access,
           (
@@ -306,63 +242,156 @@ module _ (laws : Laws) (settings : Settings) (history : List SlotBlocks) (blocks
         );
       }
 
-  -- data and speech: the load, by its field
-  traffic_read : (load : List Bool) → CarriesLoad (mode_of settings (length history)) load → (dir : Dir) (i : ℕ)
-      → ((mode : Mode) → mode_of settings (length earlier) ≡ mode → (other : Field) → get_or reading.fields.items i other ≡ field_at dir (traffic_name mode WholeName) WholeSlot)
-      → IsUndamaged (load_word key (mode_of settings (length history)) before load) (spot_values dir WholeSlot received) → BlocksRead (Traffic load) reading i
+  -- a traffic slot: what it keeps, by its training sequence and its blocks
+  abbrev mode : Mode
+  mode = mode_of settings (length history)
+
+  abbrev Kept : Train → List Bool → List Bool → Type 0
+  Kept train first second = TrafficKept settings.dir rows key blocks.aach train first second received
+
+  letter_kept : (train : Train) (first second : List Bool) → use_of settings (length history) ≡ TrafficUse → Kept train first second
+      → letter_heard settings (length earlier) received ≡ letter_by TrafficUse train
+  letter_kept train first second u parts = ap (λ t. letter_heard settings t received) same ∙ letter_in_traffic settings (length history) received u ∙ parts.letter
+
+  -- the access field in front, where there is one
+  behind_access : (dir : Dir) (letter : Letter) (aach : Option ℕ) (body : Body) → access_spot letter ≡ Access → settings.dir ≡ dir
+      → letter_heard settings (length earlier) received ≡ letter → FitsAccess dir aach → IfSome aach (λ message. IsUndamaged (access_bits rows key message) (aach_field received))
+      → BlocksRead body reading (access_count dir) → AccessRead aach body reading
+  behind_access Dl letter (Some message) body spot d e fit u read = (access_read letter message spot d e fit u, read)
+  behind_access Dl letter None body spot d e fit u read = absurd fit
+  behind_access Ul letter None body spot d e fit u read = read
+  behind_access Ul letter (Some message) body spot d e fit u read = absurd fit
+
+  -- the slot, by the fields of its blocks
+  traffic_read : (body : Body) (train : Train) (first second : List Bool) → blocks.body ≡ body → use_of settings (length history) ≡ TrafficUse → Kept train first second
+      → letter_read (letter_of body) ≡ letter_by TrafficUse train → access_spot (letter_by TrafficUse train) ≡ Access → BlocksRead body reading (access_count settings.dir)
+      → SlotRead blocks reading
+  traffic_read body train first second e u parts as_ spot read =
+      let letter = letter_kept train first second u parts in
+      record {
+        letter = lettered (letter_by TrafficUse train) letter ∙ sym (ap byte_of as_) ∙ sym (ap (λ b. byte_of (letter_read (letter_of b))) e);
+        fields = subst (λ b. AccessRead blocks.aach b reading) (sym e)
+            (behind_access settings.dir (letter_by TrafficUse train) blocks.aach body spot refl letter fits.access parts.access read);
+      }
+
+  -- the load, by its field
+  whole_there : letter_heard settings (length earlier) received ≡ T → (m : Mode) → mode ≡ m → (other : Field)
+      → get_or reading.fields.items (access_count settings.dir) other ≡ field_at settings.dir (traffic_name m WholeName) WholeSlot
+  whole_there letter m at_mode other =
+      ap (λ xs. get_or xs (access_count settings.dir) other) (items settings.dir T refl letter)
+      ∙ traffic_at settings.dir (field_heard settings.dir key complete received) (read_field rows) (mode_of settings (length earlier)) (second_stolen settings.dir key received) other
+      ∙ ap (λ k. field_at settings.dir (traffic_name k WholeName) WholeSlot) (ap (mode_of settings) same ∙ at_mode)
+
+  whole_slot : (load : List Bool) → blocks.body ≡ Traffic load → SlotRead blocks reading
   unfolding read_field field_heard place_values
-  traffic_read load carries dir i there u =
-      let values : List ℤ = spot_values dir WholeSlot received in (
+  whole_slot load e =
+      let fit = fits_traffic settings (length history) blocks fits load e in
+      let carries : CarriesLoad mode T load = (fit.1, fit.2) in
+      let word : List Bool = load_word key mode before load in
+      let size : length word ≡ 432 = load_size key mode T before load carries in
+      let sent = kept_as settings.dir blocks.aach mode (Traffic load) refl refl refl e in
+      let parts = traffic_kept laws.fields laws.kinds settings.dir rows key blocks.aach N (take 216 word) (drop 216 word) received fits.access (n_may settings.dir)
+      (first_size word size) (second_size word size) sent in
+      let letter = letter_kept N (take 216 word) (drop 216 word) fit.0 parts in
+      let values : List ℤ = spot_values settings.dir WholeSlot received in
+      let u : IsUndamaged word values = joined word size _ _ parts.block_1 parts.block_2 in
+      traffic_read (Traffic load) N (take 216 word) (drop 216 word) e fit.0 parts refl refl (
         λ l.
-            let raw : mode_of settings (length history) ≡ D72 = raw_mode (mode_of settings (length history)) load carries l in
-            plain_field reading i D72Name (field_at dir D72Name WholeSlot) load (there D72 (ap (mode_of settings) same ∙ raw)) refl
+            let raw : mode ≡ D72 = raw_mode mode T load carries l in
+            plain_field reading (access_count settings.dir) D72Name (field_at settings.dir D72Name WholeSlot) load (whole_there letter D72 raw) refl
             (laws.raw_read key load values (subst (λ m. IsUndamaged (load_word key m before load) values) raw u)),
         λ l.
-            let speech : mode_of settings (length history) ≡ Speech = speech_mode (mode_of settings (length history)) load carries l in
-            speech_field laws key (take 137 load) (take 137 (drop 137 load)) values reading i (field_at dir WholeName WholeSlot) (there Speech (ap (mode_of settings) same ∙ speech)) refl refl
+            let speech : mode ≡ Speech = speech_mode mode T load carries (inl l) in
+            speech_field laws key (take 137 load) (take 137 (drop 137 load)) values reading (access_count settings.dir) (field_at settings.dir WholeName WholeSlot)
+            (whole_there letter Speech speech) refl refl
             (frame_a load l) (frame_b load l) (subst (λ m. IsUndamaged (load_word key m before load) values) speech u),
       )
 
-  traffic_down : (load : List Bool) → blocks.body ≡ Traffic load → settings.dir ≡ Dl → SlotRead blocks reading
-  unfolding read_field field_heard place_values
-  traffic_down load e d =
-      let fit = fits_data settings (length history) blocks built fits load e in
-      let there = access_there settings.dir blocks.aach fits.access d in
-      let word : List Bool = load_word key (mode_of settings (length history)) before load in
-      let size : length word ≡ 432 = load_size key (mode_of settings (length history)) before load fit.1 in
-      let access : List Bool = access_bits rows key there.0 in
-      let sent = kept_as Dl (Some there.0) (mode_of settings (length history)) (Traffic load) d there.1 refl e in
-      let parts = laws.fields.normal_down N (take 216 word) access (drop 216 word) received (first_size word size) (access_size rows key there.0) (second_size word size) sent in
-      let kinds = laws.kinds.kind (blocks_down (take 216 word) access (drop 216 word)) true N (allowed_in Dl TrafficUse) received sent refl (λ y. refl) in
-      let letter = heard_as Dl TrafficUse N d fit.0 kinds in
-      record {
-        letter = lettered T letter ∙ sym (ap (λ b. byte_of (letter_of b)) e);
-        fields = rw (e, there.1) (
-          access_read T there.0 refl d letter there.2 parts.access,
-          traffic_read load fit.1 Dl 1
-              (λ mode e other. ap (λ xs. get_or xs 1 other) (items Dl T d letter) ∙ ap (λ m. get_or (map (read_field rows) (map (field_heard Dl key complete received) (places_of Dl T m))) 1 other) e)
-              (joined word size _ _ parts.block_1 parts.block_2),
-        );
-      }
+  -- a slot whose first half is stolen
+  module _ (letter : letter_heard settings (length earlier) received ≡ P) where
+    stolen_there_at : (other : Field)
+        → StolenAt settings.dir (field_heard settings.dir key complete received) (read_field rows) (mode_of settings (length earlier)) (second_stolen settings.dir key received)
+        reading.fields.items other
+    stolen_there_at other =
+        subst (λ xs. StolenAt settings.dir (field_heard settings.dir key complete received) (read_field rows) (mode_of settings (length earlier)) (second_stolen settings.dir key received) xs other)
+        (sym (items settings.dir P refl letter))
+        (stolen_at settings.dir (field_heard settings.dir key complete received) (read_field rows) (mode_of settings (length earlier)) (second_stolen settings.dir key received) other)
 
-  traffic_up : (load : List Bool) → blocks.body ≡ Traffic load → settings.dir ≡ Ul → SlotRead blocks reading
-  unfolding read_field field_heard place_values
-  traffic_up load e d =
-      let fit = fits_data settings (length history) blocks built fits load e in
-      let none = access_none settings.dir blocks.aach fits.access d in
-      let word : List Bool = load_word key (mode_of settings (length history)) before load in
-      let size : length word ≡ 432 = load_size key (mode_of settings (length history)) before load fit.1 in
-      let sent = kept_as Ul None (mode_of settings (length history)) (Traffic load) d none refl e in
-      let parts = laws.fields.normal_up N (take 216 word) (drop 216 word) received (first_size word size) (second_size word size) sent in
-      let kinds = laws.kinds.kind (blocks_up (take 216 word) (drop 216 word)) false N (allowed_in Ul TrafficUse) received sent refl (λ y. absurd cc) in
-      let letter = heard_as Ul TrafficUse N d fit.0 kinds in
-      record {
-        letter = lettered T letter ∙ sym (ap (λ b. byte_of (letter_of b)) e);
-        fields = rw (e, none)
-            (traffic_read load fit.1 Ul 0
-            (λ mode e other. ap (λ xs. get_or xs 0 other) (items Ul T d letter) ∙ ap (λ m. get_or (map (read_field rows) (map (field_heard Ul key complete received) (places_of Ul T m))) 0 other) e)
-            (joined word size _ _ parts.block_1 parts.block_2));
-      }
+    half_1_read : (block : List Bool) → length block ≡ 124 → IsUndamaged (type5_bits half key block) (first_half (is_downlink settings.dir) received)
+        → HasField reading (access_count settings.dir) HalfName Good (message_of half block)
+    unfolding read_field field_heard place_values good_mark
+    half_1_read block size u =
+        coded_field half laws.half_read key block (first_half (is_downlink settings.dir) received) reading (access_count settings.dir) HalfName
+        (field_at settings.dir HalfName FirstBlock) (λ other. (stolen_there_at other).half_1) refl refl (omega (arith, size)) u
+
+    half_2_read : (block : List Bool) → length block ≡ 124 → IsUndamaged (type5_bits half key block) (second_half (is_downlink settings.dir) received)
+        → HasField reading (access_count settings.dir + 1) HalfName Good (message_of half block)
+    unfolding read_field field_heard place_values good_mark
+    half_2_read block size u =
+        coded_field half laws.half_read key block (second_half (is_downlink settings.dir) received) reading (access_count settings.dir + 1) HalfName
+        (field_at settings.dir HalfName SecondBlock) (λ other. (stolen_there_at other).half_2) refl refl (omega (arith, size)) u
+
+    rest_there : (m : Mode) → mode ≡ m → (other : Field) → get_or reading.fields.items (access_count settings.dir + 2) other
+        ≡ field_at settings.dir (traffic_name m SingleName) (rest_spot m (second_stolen settings.dir key received))
+    rest_there m at_mode other =
+        (stolen_there_at other).load
+        ∙ ap (λ k. field_at settings.dir (traffic_name k SingleName) (rest_spot k (second_stolen settings.dir key received))) (ap (mode_of settings) same ∙ at_mode)
+
+    raw_rest : (load : List Bool) → mode ≡ D72 → length load ≡ 432
+        → (second_stolen settings.dir key received ≡ false → IsUndamaged (drop 216 (raw_bits key load)) (second_half (is_downlink settings.dir) received))
+        → HasFieldUpTo reading (access_count settings.dir + 2) D72Name Unchecked load
+    unfolding read_field field_heard place_values
+    raw_rest load raw size second =
+        let stolen : Bool = second_stolen settings.dir key received in
+        up_to_field reading (access_count settings.dir + 2) (field_at settings.dir D72Name (data_rest stolen)) key load (spot_values settings.dir (data_rest stolen) received) laws.raw_up_to
+        (rest_there D72 raw) refl refl
+        (rest_kept (raw_bits key load) (raw_size key load ∙ size) settings.dir received stolen second)
+
+    frame_rest : (load : List Bool) → mode ≡ Speech → length load ≡ 137 → IsUndamaged (flipped (half_type4 load) key 1) (second_half (is_downlink settings.dir) received)
+        → HasField reading (access_count settings.dir + 2) SingleName Good (half_message load)
+    unfolding read_field field_heard place_values
+    frame_rest load speech size u =
+        frame_field laws key load (second_half (is_downlink settings.dir) received) reading (access_count settings.dir + 2) (field_at settings.dir SingleName SecondBlock)
+        (rest_there Speech speech) refl refl size u
+
+  first_stolen : (first load : List Bool) → blocks.body ≡ Stolen first load → SlotRead blocks reading
+  first_stolen first load e =
+      let fit = fits_stolen settings (length history) blocks fits first load e in
+      let carries : CarriesLoad mode P load = (fit.1, fit.3) in
+      let a : List Bool = type5_bits half key first in
+      let b : List Bool = rest_word key mode before load in
+      let sent = kept_as settings.dir blocks.aach mode (Stolen first load) refl refl refl e in
+      let parts = traffic_kept laws.fields laws.kinds settings.dir rows key blocks.aach PTrain a b received fits.access (p_may settings.dir)
+      (coded_size half key first) (rest_size key mode P before load carries) sent in
+      let letter = letter_kept PTrain a b fit.0 parts in
+      let second : List ℤ = second_half (is_downlink settings.dir) received in
+      traffic_read (Stolen first load) PTrain a b e fit.0 parts refl refl (
+        half_1_read letter first fit.2 parts.block_1,
+        λ l.
+            let raw : mode ≡ D72 = raw_mode mode P load carries l in
+            raw_rest letter load raw l (λ whole. subst (λ m. IsUndamaged (rest_word key m before load) second) raw parts.block_2),
+        λ l.
+            let speech : mode ≡ Speech = speech_mode mode P load carries (inr l) in
+            frame_rest letter load speech l (subst (λ m. IsUndamaged (rest_word key m before load) second) speech parts.block_2),
+      )
+
+  -- a slot both halves of which are stolen
+  both_stolen : (first second load : List Bool) → blocks.body ≡ Both first second load → SlotRead blocks reading
+  both_stolen first second load e =
+      let fit = fits_both settings (length history) blocks fits first second load e in
+      let carries : CarriesLoad mode Q load = (fit.1, fit.4) in
+      let a : List Bool = type5_bits half key first in
+      let b : List Bool = type5_bits half key second in
+      let sent = kept_as settings.dir blocks.aach mode (Both first second load) refl refl refl e in
+      let parts = traffic_kept laws.fields laws.kinds settings.dir rows key blocks.aach PTrain a b received fits.access (p_may settings.dir)
+      (coded_size half key first) (coded_size half key second) sent in
+      let letter = letter_kept PTrain a b fit.0 parts in
+      let stolen = stolen_there laws.half_read settings.dir key second received fit.3 parts.block_2 in
+      traffic_read (Both first second load) PTrain a b e fit.0 parts refl refl (
+        half_1_read letter first fit.2 parts.block_1,
+        half_2_read letter second fit.3 parts.block_2,
+        λ l. raw_rest letter load (raw_mode mode Q load carries l) l (λ whole. absurd (let clash : true ≡ false = sym stolen ∙ whole in cc)),
+      )
 
   -- control bursts
   module _ (d : settings.dir ≡ Ul) (letter : letter_heard settings (length earlier) received ≡ C) where
@@ -390,30 +419,30 @@ module _ (laws : Laws) (settings : Settings) (history : List SlotBlocks) (blocks
       let sent = kept_as Ul None (mode_of settings (length history)) (Control first second) d none refl e in
       let letter = heard_as Ul ControlUse (kind received false (allowed_in Ul ControlUse)) d fit.0 refl in
       record {
-        letter = lettered C letter ∙ sym (ap (λ b. byte_of (letter_of b)) e);
+        letter = lettered C letter ∙ sym (ap (λ b. byte_of (letter_read (letter_of b))) e);
         fields = rw (e, none) (first_sub d letter first second fit.2 sent, second_sub d letter first second fit.3 sent);
       }
 
-  by_body : (body : Body) → blocks.body ≡ body → (dir : Dir) → settings.dir ≡ dir → (is_built_letter (byte_of (letter_of blocks.body)) ≡ true) → SlotRead blocks reading
-  by_body (Full block) e Dl d letter = full_down block e d
-  by_body (Full block) e Ul d letter = full_up block e d
-  by_body (Halves first second) e dir d letter = halves first second e
-  by_body (Sync sync second) e dir d letter = synchronised sync second e
-  by_body (Traffic load) e Dl d letter = traffic_down load e d
-  by_body (Traffic load) e Ul d letter = traffic_up load e d
-  by_body (Control first second) e dir d letter = controlled first second e
-  by_body (Stolen first load) e dir d letter = absurd (let b = rw e at letter in cc)
-  by_body (Both first second load) e dir d letter = absurd (let b = rw e at letter in cc)
+  by_body : (body : Body) → blocks.body ≡ body → (dir : Dir) → settings.dir ≡ dir → SlotRead blocks reading
+  by_body (Full block) e Dl d = full_down block e d
+  by_body (Full block) e Ul d = full_up block e d
+  by_body (Halves first second) e dir d = halves first second e
+  by_body (Sync sync second) e dir d = synchronised sync second e
+  by_body (Traffic load) e dir d = whole_slot load e
+  by_body (Stolen first load) e dir d = first_stolen first load e
+  by_body (Both first second load) e dir d = both_stolen first second load e
+  by_body (Control first second) e dir d = controlled first second e
 
-pub slots_arrive : UndamagedIsRead bsch → UndamagedIsRead hu → UndamagedIsRead half → UndamagedIsRead full → UndamagedRawIsRead → UndamagedAccessIsRead → FieldsArrive → KindArrives
-    → FlippedBack → StaysUndamaged → UndamagedSpeechArrives → UndamagedSpeechIsRead → SlotsArrive
-slots_arrive bsch_read hu_read half_read full_read raw_read access_read fields kinds back stays speech_arrives speech_read settings history blocks earlier received built fits letter same kept =
+pub slots_arrive : UndamagedIsRead bsch → UndamagedIsRead hu → UndamagedIsRead half → UndamagedIsRead full → UndamagedRawIsRead → NoneWrongRawIsRead → UndamagedAccessIsRead
+    → FieldsArrive → KindArrives → FlippedBack → StaysUndamaged → UndamagedSpeechArrives → UndamagedSpeechIsRead → SlotsArrive
+slots_arrive bsch_read hu_read half_read full_read raw_read raw_up_to access_read fields kinds back stays speech_arrives speech_read settings history blocks earlier received fits same kept =
     by_body (record {
       bsch_read = bsch_read;
       hu_read = hu_read;
       half_read = half_read;
       full_read = full_read;
       raw_read = raw_read;
+      raw_up_to = raw_up_to;
       access_read = access_read;
       fields = fields;
       kinds = kinds;
@@ -422,4 +451,4 @@ slots_arrive bsch_read hu_read half_read full_read raw_read access_read fields k
       speech_arrives = speech_arrives;
       speech_read = speech_read;
     })
-    settings history blocks earlier received built fits same kept blocks.body refl settings.dir refl letter
+    settings history blocks earlier received fits same kept blocks.body refl settings.dir refl

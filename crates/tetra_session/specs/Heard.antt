@@ -1,14 +1,17 @@
 -- What a receiver answers, and what it stands for.
-use Rattle.std.specs.Prelude.{◌≡◌, ℕ, Bool, true, false, cond, List, [], ◌∷◌, ◌++◌, length, map, ℤ, Some}
+use Rattle.std.specs.Prelude.{◌≡◌, ℕ, Bool, true, false, cond, List, [], ◌∷◌, ◌++◌, length, map, ℤ, Some, None}
 use Rattle.std.specs.declared.option.Option.{Option}
+use Rattle.tetra_bits.specs.declared.reading.Mark.{Mark}
+use Rattle.tetra_bits.specs.declared.reading.Mark.TheVariants.{Good, Bad, Unchecked, NotYet}
 use Rattle.tetra_bursts.specs.Kind.{kind}
 use Rattle.tetra_bursts.specs.declared.kinds.Allowed.{Allowed}
 use Rattle.tetra_bursts.specs.declared.table.Train.{Train}
 use Rattle.tetra_bursts.specs.declared.table.Train.TheVariants.{N, P as PTrain, Y}
+use Rattle.tetra_channels.specs.Channels.{half}
+use Rattle.tetra_channels.specs.Fields.{coded_reading}
 use Rattle.tetra_diag.specs.Diagonal.{gathered, GatherStands}
 use Rattle.tetra_scramble.specs.Key.{key_of, zero_key_bits}
 use Rattle.tetra_settings.specs.Slots.{timeslot_of, use_of, mode_of, byte_of}
-use Rattle.tetra_settings.specs.Readings.{traffic_name}
 use Rattle.tetra_settings.specs.declared.types.Dir.{Dir}
 use Rattle.tetra_settings.specs.declared.types.Dir.TheVariants.{Dl, Ul}
 use Rattle.tetra_settings.specs.declared.types.Mode.{Mode}
@@ -22,7 +25,7 @@ use Rattle.tetra_settings.specs.declared.readings.FieldName.TheVariants.{Aach, S
 use Rattle.tetra_settings.specs.declared.readings.Field.{Field}
 use Rattle.tetra_settings.specs.declared.readings.SlotReading.{SlotReading}
 use Rattle.tetra_session.specs.Readers.{reader, heard_by, read_field, read_front}
-use Rattle.tetra_session.specs.Spots.{is_downlink, place, places_of, spot_values}
+use Rattle.tetra_session.specs.Spots.{is_downlink, place, load_place, places_of, spot_values}
 use Rattle.tetra_session.specs.Four.{all_brought, FourStand}
 use Rattle.tetra_session.specs.Time.{depth}
 use Rattle.tetra_session.specs.declared.front.FrontField.{FrontField}
@@ -31,7 +34,7 @@ use Rattle.tetra_session.specs.declared.gathering.GatherLane.{GatherLane}
 use Rattle.tetra_session.specs.declared.gathering.GatherLane.TheVariants.{Still, One, Four, Eight}
 use Rattle.tetra_session.specs.declared.receiver.Receiver.{Receiver}
 use Rattle.tetra_session.specs.declared.spots.Place.{Place}
-use Rattle.tetra_session.specs.declared.spots.Spot.TheVariants.{WholeSlot}
+use Rattle.tetra_session.specs.declared.spots.Spot.TheVariants.{SecondBlock}
 
 -- the training sequences that a slot may have; in control bursts none is asked for
 abbrev pub allowed_in : Dir → SlotUse → Allowed
@@ -80,9 +83,31 @@ unfoldable pub place_values : Dir → List Bool → List ℤ → Place → List 
 place_values dir key soft place =
     heard_by (reader place.name) (key_for key place.name) (spot_values dir place.spot soft)
 
--- what a traffic slot brings to its timeslot: of protected data its slot word
+-- whether a message is good
+abbrev pub is_good : Mark → Bool
+is_good Good = true
+is_good Bad = false
+is_good Unchecked = false
+is_good NotYet = false
+
+-- block 2 is stolen, as it seems: read as a half slot channel it is Good
+unfoldable pub second_stolen : Dir → List Bool → List ℤ → Bool
+second_stolen dir key soft = is_good (coded_reading half (place_values dir key soft (place Half SecondBlock))).mark
+
+-- the letter of a traffic slot
+unfoldable pub traffic_letter : Dir → List ℤ → Letter
+traffic_letter dir soft = letter_by Traffic (kind soft (is_downlink dir) (allowed_in dir Traffic))
+
+-- the values of the field at a place, where there is one
+abbrev pub values_there : Dir → List Bool → List ℤ → Option Place → List ℤ
+values_there dir key soft None = []
+values_there dir key soft (Some place) = place_values dir key soft place
+
+-- what a traffic slot brings to its timeslot: of protected data its slot word, in which the values of stolen halves
+-- count 0
 unfoldable pub word_heard : Dir → List Bool → Mode → List ℤ → List ℤ
-word_heard dir key mode soft = place_values dir key soft (place (traffic_name mode Whole) WholeSlot)
+word_heard dir key mode soft =
+    values_there dir key soft (load_place (traffic_letter dir soft) mode (second_stolen dir key soft))
 
 -- the slot words of timeslot c
 abbrev pub words_heard : Settings → ℕ → List (List ℤ) → List (List ℤ)
@@ -125,7 +150,8 @@ field_of_place settings key block soft place =
 
 -- the fields of a slot of this letter, with their values
 unfoldable pub fields_heard : Dir → Mode → Letter → List Bool → Option (List ℤ) → List ℤ → List FrontField
-fields_heard dir mode letter key block soft = map (field_heard dir key block soft) (places_of dir letter mode)
+fields_heard dir mode letter key block soft =
+    map (field_heard dir key block soft) (places_of dir letter mode (second_stolen dir key soft))
 
 -- the front of the slot that follows these
 unfoldable pub slot_front : Settings → List (List ℤ) → List ℤ → Front

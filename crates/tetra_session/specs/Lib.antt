@@ -1,4 +1,3 @@
-pub mod Built
 pub mod Time
 pub mod Four
 pub mod Spots

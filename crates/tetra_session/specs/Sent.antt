@@ -18,7 +18,7 @@ use Rattle.tetra_settings.specs.declared.types.Settings.{Settings}
 use Rattle.tetra_settings.specs.declared.blocks.Body.{Body}
 use Rattle.tetra_settings.specs.declared.blocks.Body.TheVariants.{Full, Halves, Sync, Traffic, Stolen, Both, Control}
 use Rattle.tetra_settings.specs.declared.blocks.SlotBlocks.{SlotBlocks}
-use Rattle.tetra_speech.specs.Words.{whole_type4}
+use Rattle.tetra_speech.specs.Words.{whole_type4, half_type4}
 use Rattle.tetra_session.specs.Four.{all_brought, FourStand}
 use Rattle.tetra_session.specs.Time.{span_slots}
 use Rattle.tetra_session.specs.declared.sender.Sender.{Sender}
@@ -67,21 +67,32 @@ load_word key Sig before load = []
 load_word key Cb before load = []
 load_word key Speech before load = flipped (whole_type4 (take 137 load) (take 137 (drop 137 load))) key 1
 
+-- the 216 type-5 bits of block 2 of a traffic slot whose first half is stolen: data has the second half of its word
+-- there, and speech one frame
+abbrev pub rest_word : List Bool → Mode → List (List Bool) → List Bool → List Bool
+rest_word key D72 before load = drop 216 (load_word key D72 before load)
+rest_word key (D48 span) before load = drop 216 (load_word key (D48 span) before load)
+rest_word key (D24 span) before load = drop 216 (load_word key (D24 span) before load)
+rest_word key Sig before load = []
+rest_word key Cb before load = []
+rest_word key Speech before load = flipped (half_type4 load) key 1
+
 -- the type-5 bits of a subslot that is sent
 abbrev pub subslot_bits : List Bool → Option (List Bool) → Option (List Bool)
 subslot_bits key None = None
 subslot_bits key (Some block) = Some (type5_bits hu key block)
 
--- the burst of a body, after the blocks of protected data before it. BSCH has the key of no colour; stolen half slots
--- are not built
+-- the burst of a body, after the blocks of protected data before it. BSCH has the key of no colour. In a stolen half
+-- slot an STCH block is sent, and not the bits of the load that stand there
 abbrev pub burst_of : List Bool → Mode → List (List Bool) → Body → SlotBurst
 burst_of key mode before (Full block) = whole N (type5_bits full key block)
 burst_of key mode before (Halves first second) = Normal PTrain (type5_bits half key first) (type5_bits half key second)
 burst_of key mode before (Sync sync second) =
     Synchronisation (type5_bits bsch zero_key_bits sync) (type5_bits half key second)
 burst_of key mode before (Traffic load) = whole N (load_word key mode before load)
-burst_of key mode before (Stolen first load) = Normal PTrain [] []
-burst_of key mode before (Both first second load) = Normal PTrain [] []
+burst_of key mode before (Stolen first load) = Normal PTrain (type5_bits half key first) (rest_word key mode before load)
+burst_of key mode before (Both first second load) =
+    Normal PTrain (type5_bits half key first) (type5_bits half key second)
 burst_of key mode before (Control first second) = Subslots (subslot_bits key first) (subslot_bits key second)
 
 -- the access field of a downlink slot

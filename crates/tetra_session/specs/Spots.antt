@@ -1,5 +1,6 @@
 -- Where the fields of a slot stand, and their values (EN 300 392-2 clause 9.4.4).
-use Rattle.std.specs.Prelude.{◌≡◌, ℕ, ◌≤◌, Bool, true, false, List, [], ◌∷◌, ◌++◌, length, map, All, ℤ}
+use Rattle.std.specs.Prelude.{◌≡◌, ℕ, ◌≤◌, Bool, true, false, List, [], ◌∷◌, ◌++◌, length, map, replicate, All, ℤ, pos, Some, None}
+use Rattle.std.specs.declared.option.Option.{Option}
 use Rattle.tetra_bursts.specs.Fields.{first_half, second_half, sync_field, aach_field, aach_sync, sub_first, sub_second}
 use Rattle.tetra_settings.specs.Readings.{IsRow, sizes, traffic_name}
 use Rattle.tetra_settings.specs.Slots.{byte_of}
@@ -12,31 +13,45 @@ use Rattle.tetra_settings.specs.declared.slots.Letter.TheVariants.{F, H, S, T, P
 use Rattle.tetra_settings.specs.declared.readings.FieldName.{FieldName}
 use Rattle.tetra_settings.specs.declared.readings.FieldName.TheVariants.{Aach, Sync, Half, Hu, Full, Whole as WholeSpeech, Single}
 use Rattle.tetra_session.specs.declared.spots.Spot.{Spot}
-use Rattle.tetra_session.specs.declared.spots.Spot.TheVariants.{Access, SyncAccess, Sync as SyncSpot, FirstBlock, SecondBlock, WholeSlot, FirstSubslot, SecondSubslot}
+use Rattle.tetra_session.specs.declared.spots.Spot.TheVariants.{Access, SyncAccess, Sync as SyncSpot, FirstBlock, SecondBlock, WholeSlot, Rest, Nowhere, FirstSubslot, SecondSubslot}
 use Rattle.tetra_session.specs.declared.spots.Place.{Place}
 
 abbrev pub place : FieldName → Spot → Place
 place what where_ = record { name = what; spot = where_ }
 
--- where the load of a slot stands whose first half is stolen: speech in the second half, data in both
-abbrev pub load_spot : Mode → Spot
-load_spot Speech = SecondBlock
-load_spot Sig = SecondBlock
-load_spot Cb = SecondBlock
-load_spot D72 = WholeSlot
-load_spot (D48 span) = WholeSlot
-load_spot (D24 span) = WholeSlot
+-- where data stands whose first half is stolen: in block 2, and nowhere where that is stolen too
+abbrev pub data_rest : Bool → Spot
+data_rest false = Rest
+data_rest true = Nowhere
 
--- the places of the fields of a letter, behind the access field. A slot is never read as Q
-abbrev pub body_places : Letter → Mode → List Place
-body_places F mode = place Full WholeSlot ∷ []
-body_places H mode = place Half FirstBlock ∷ place Half SecondBlock ∷ []
-body_places S mode = place Sync SyncSpot ∷ place Half SecondBlock ∷ []
-body_places T mode = place (traffic_name mode WholeSpeech) WholeSlot ∷ []
-body_places P mode =
-    place Half FirstBlock ∷ place Half SecondBlock ∷ place (traffic_name mode Single) (load_spot mode) ∷ []
-body_places Q mode = []
-body_places C mode = place Hu FirstSubslot ∷ place Hu SecondSubslot ∷ []
+-- where the load of a slot stands whose first half is stolen
+abbrev pub rest_spot : Mode → Bool → Spot
+rest_spot Speech second_stolen = SecondBlock
+rest_spot Sig second_stolen = SecondBlock
+rest_spot Cb second_stolen = SecondBlock
+rest_spot D72 second_stolen = data_rest second_stolen
+rest_spot (D48 span) second_stolen = data_rest second_stolen
+rest_spot (D24 span) second_stolen = data_rest second_stolen
+
+-- the place of the load of a traffic slot. A slot is never read as Q
+abbrev pub load_place : Letter → Mode → Bool → Option Place
+load_place F mode second_stolen = None
+load_place H mode second_stolen = None
+load_place S mode second_stolen = None
+load_place T mode second_stolen = Some (place (traffic_name mode WholeSpeech) WholeSlot)
+load_place P mode second_stolen = Some (place (traffic_name mode Single) (rest_spot mode second_stolen))
+load_place Q mode second_stolen = None
+load_place C mode second_stolen = None
+
+-- the places of the other fields of a letter, behind the access field
+abbrev pub block_places : Letter → List Place
+block_places F = place Full WholeSlot ∷ []
+block_places H = place Half FirstBlock ∷ place Half SecondBlock ∷ []
+block_places S = place Sync SyncSpot ∷ place Half SecondBlock ∷ []
+block_places T = []
+block_places P = place Half FirstBlock ∷ place Half SecondBlock ∷ []
+block_places Q = []
+block_places C = place Hu FirstSubslot ∷ place Hu SecondSubslot ∷ []
 
 -- where the access field stands
 abbrev pub access_spot : Letter → Spot
@@ -49,15 +64,25 @@ access_spot Q = Access
 access_spot C = Access
 
 -- the downlink has one in front
-abbrev pub places_of : Dir → Letter → Mode → List Place
-places_of Dl letter mode = place Aach (access_spot letter) ∷ body_places letter mode
-places_of Ul letter mode = body_places letter mode
+abbrev pub places_before_load : Dir → Letter → List Place
+places_before_load Dl letter = place Aach (access_spot letter) ∷ block_places letter
+places_before_load Ul letter = block_places letter
+
+-- the place of the load, where there is one, behind other places
+abbrev pub with_load : List Place → Option Place → List Place
+with_load places None = places
+with_load places (Some load) = places ++ load ∷ []
+
+-- the places of all fields of a slot; whether block 2 is stolen bears on the letter P alone
+abbrev pub places_of : Dir → Letter → Mode → Bool → List Place
+places_of dir letter mode second_stolen =
+    with_load (places_before_load dir letter) (load_place letter mode second_stolen)
 
 abbrev pub is_downlink : Dir → Bool
 is_downlink Dl = true
 is_downlink Ul = false
 
--- the received values at a spot, in the order of type-5 bits
+-- the received values at a spot, in the order of type-5 bits; where a half is stolen from data its values count 0
 abbrev pub spot_values : Dir → Spot → List ℤ → List ℤ
 spot_values dir Access soft = aach_field soft
 spot_values dir SyncAccess soft = aach_sync soft
@@ -65,6 +90,8 @@ spot_values dir SyncSpot soft = sync_field soft
 spot_values dir FirstBlock soft = first_half (is_downlink dir) soft
 spot_values dir SecondBlock soft = second_half (is_downlink dir) soft
 spot_values dir WholeSlot soft = first_half (is_downlink dir) soft ++ second_half (is_downlink dir) soft
+spot_values dir Rest soft = replicate 216 (pos 0) ++ second_half (is_downlink dir) soft
+spot_values dir Nowhere soft = replicate 432 (pos 0)
 spot_values dir FirstSubslot soft = sub_first soft
 spot_values dir SecondSubslot soft = sub_second soft
 
@@ -76,6 +103,8 @@ spot_size SyncSpot = 120
 spot_size FirstBlock = 216
 spot_size SecondBlock = 216
 spot_size WholeSlot = 432
+spot_size Rest = 432
+spot_size Nowhere = 432
 spot_size FirstSubslot = 168
 spot_size SecondSubslot = 168
 
@@ -87,6 +116,8 @@ HasSpot dir SyncSpot = is_downlink dir ≡ true
 HasSpot dir FirstBlock = Unit {0}
 HasSpot dir SecondBlock = Unit {0}
 HasSpot dir WholeSlot = Unit {0}
+HasSpot dir Rest = Unit {0}
+HasSpot dir Nowhere = Unit {0}
 HasSpot dir FirstSubslot = is_downlink dir ≡ false
 HasSpot dir SecondSubslot = is_downlink dir ≡ false
 

@@ -1,7 +1,6 @@
 -- Facts on the definitions of this crate, with their proofs, for the proofs here and in the crates above. No contract
 -- cites them, but for a struct that keeps valid settings.
 pub mod Valid
-pub mod Modes
 pub mod Picked
 pub mod FourSteps
 pub mod Same
@@ -9,5 +8,6 @@ pub mod Places
 pub mod Values
 pub mod Spread
 pub mod Plans
+pub mod NoneWrong
 pub mod Fields
 pub mod Written

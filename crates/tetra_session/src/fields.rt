@@ -1,19 +1,21 @@
 // The letter and the fields of a slot.
-ghost use Rattle.std.specs.Prelude.{◌≡◌, ◌≤◌, ◌++◌, ◌∷◌, [], List, ℤ, length, map, All, IfSome, IsTrue};
+ghost use Rattle.std.specs.Prelude.{◌≡◌, ◌≤◌, ◌++◌, ◌∷◌, ◌-◌, [], ℕ, Bool, List, ℤ, length, map, drop, false, None, slice_index_or, slice_set, All, IfSome, MatchOption, IsTrue};
 ghost use Rattle.arrayvec.specs.ArrayVec.{array_vec_len};
 ghost use Rattle.tetra_bits.specs.Soft.{AllSoft};
+ghost use Rattle.tetra_channels.specs.Channels.{half};
+ghost use Rattle.tetra_channels.specs.Fields.{coded_reading};
 ghost use Rattle.tetra_diag.specs.Diagonal.{gathered};
 ghost use Rattle.tetra_scramble.specs.Key.{zero_key_bits};
 ghost use Rattle.tetra_settings.specs.Readings.{sizes};
-ghost use Rattle.tetra_session.specs.Heard.{GatherLaneStands, allowed_in, letter_by, place_values, word_heard, is_spread, field_heard, field_of_place};
+ghost use Rattle.tetra_settings.specs.declared.slots.Letter.TheVariants as Letter;
+ghost use Rattle.tetra_session.specs.Heard.{GatherLaneStands, allowed_in, letter_by, place_values, second_stolen, is_good, is_spread, field_heard, field_of_place};
 ghost use Rattle.tetra_session.specs.Readers.{reader, read_by, field_reading};
-ghost use Rattle.tetra_session.specs.Spots.{FitsSpot};
-ghost use Rattle.tetra_session.specs.Time.{depth};
+ghost use Rattle.tetra_session.specs.Spots.{FitsSpot, load_place, places_before_load};
 
 use crate::front::FrontField;
 use crate::gathering::GatherLane;
 use crate::keys::Keys;
-use crate::spots::{Place, Spot, spot_into};
+use crate::spots::{Place, load_place, spot_into};
 use arrayvec::ArrayVec;
 use tetra_bits::{Bits, Mark, Reading, Soft};
 use tetra_bursts::{Allowed, Train};
@@ -69,6 +71,16 @@ pub fn letter_by(slot: SlotUse, train: Train) -> Letter
     }
 }
 
+/// Whether a message is good.
+fn is_good(mark: Mark) -> bool
+    ensures { result ≡ is_good mark }
+{
+    match mark {
+        Mark::Good => true,
+        Mark::Bad | Mark::Unchecked | Mark::NotYet => false,
+    }
+}
+
 /// The values of the field at a place, after its key, and in the order of type-3 bits where it has a code, written over
 /// those that are there. `type5` is filled on the way.
 #[tactic(auto, unfolding(crate::specs::Heard::place_values))]
@@ -101,12 +113,12 @@ pub fn hear(
     }
 }
 
-/// Takes the slot word of a traffic slot into the lane of its timeslot, where it is one of protected data. `block` is then
-/// the block that is complete with it, where one is. `scratch` is filled on the way.
+/// Takes the load of a traffic slot into the lane of its timeslot, where it is a slot word of protected data. `block` is
+/// then the block that is complete with it, where one is. `scratch` is filled on the way.
 pub fn gather(
     lane: &mut GatherLane,
     dir: Dir,
-    mode: Mode,
+    load: Place,
     keys: &Keys,
     soft: &[i16; 510],
     scratch: &mut Scratch,
@@ -114,34 +126,27 @@ pub fn gather(
 )
     requires soft { AllSoft soft.now }
     requires none { keys.now.none ≡ zero_key_bits }
-    ensures block { (words : List (List ℤ)) → GatherLaneStands (depth mode) words lane.old → 1 ≤ depth mode
-        → block.new ≡ gathered (depth mode) (words ++ word_heard dir keys.now.colour mode soft.now ∷ []) }
-    ensures stands { (words : List (List ℤ)) → GatherLaneStands (depth mode) words lane.old
-        → GatherLaneStands (depth mode) (words ++ word_heard dir keys.now.colour mode soft.now ∷ []) lane.new }
+    requires place { FitsSpot dir load }
+    ensures block { (n : ℕ) (words : List (List ℤ)) → GatherLaneStands n words lane.old → 1 ≤ n → IsTrue (is_spread load.name)
+        → block.new ≡ gathered n (words ++ place_values dir keys.now.colour soft.now load ∷ []) }
+    ensures stands { (n : ℕ) (words : List (List ℤ)) → GatherLaneStands n words lane.old → (1 ≤ n → IsTrue (is_spread load.name))
+        → GatherLaneStands n (words ++ place_values dir keys.now.colour soft.now load ∷ []) lane.new }
     ensures size { IfSome block.new (λ values. length values ≡ 432) }
 {
-    let name = match mode {
-        Mode::D48(_) => FieldName::D48,
-        Mode::D24(_) => FieldName::D24,
-        Mode::Sig | Mode::Cb | Mode::D72 | Mode::Speech => {
+    if is_spread(load.name) {
+        hear(
+            dir,
+            load,
+            keys,
+            soft,
+            &mut scratch.type5,
+            &mut scratch.values,
+        );
+        let values = block.get_or_insert_with(Soft::new);
+        if !lane.push_into(&scratch.values, values) {
             *block = None;
-            return;
         }
-    };
-    let place = Place {
-        name,
-        spot: Spot::WholeSlot,
-    };
-    hear(
-        dir,
-        place,
-        keys,
-        soft,
-        &mut scratch.type5,
-        &mut scratch.values,
-    );
-    let values = block.get_or_insert_with(Soft::new);
-    if !lane.push_into(&scratch.values, values) {
+    } else {
         *block = None;
     }
 }
@@ -223,7 +228,7 @@ fn hear_field(
     }
 }
 
-/// The fields at these places with their values, written over as many fields that are there.
+/// The fields at these places with their values, written over the first of those that are there.
 pub fn hear_fields(
     dir: Dir,
     places: &[Place],
@@ -236,8 +241,9 @@ pub fn hear_fields(
     requires soft { AllSoft soft.now }
     requires none { keys.now.none ≡ zero_key_bits }
     requires fit { All (FitsSpot dir) places.now }
-    requires as_many { length fields.old ≡ length places.now }
-    ensures { fields.new ≡ map (field_heard dir keys.now.colour block.now soft.now) places.now }
+    requires as_many { length places.now ≤ length fields.old }
+    ensures { fields.new ≡ map (field_heard dir keys.now.colour block.now soft.now) places.now
+        ++ drop (length places.now) fields.old }
 {
     for i in 0..places.len() {
         hear_field(dir, places[i], keys, block, soft, type5, &mut fields[i]);
@@ -282,7 +288,7 @@ fn read_field(
     );
 }
 
-/// The fields at these places with what is read of them, written over as many fields that are there.
+/// The fields at these places with what is read of them, written over the first of those that are there.
 pub fn read_fields(
     settings: &Settings,
     places: &[Place],
@@ -296,8 +302,9 @@ pub fn read_fields(
     requires none { keys.now.none ≡ zero_key_bits }
     requires fit { All (FitsSpot settings.now.dir) places.now }
     requires block { IfSome block.now (λ values. length values ≡ 432) }
-    requires as_many { length fields.old ≡ length places.now }
-    ensures { fields.new ≡ map (field_of_place settings.now keys.now.colour block.now soft.now) places.now }
+    requires as_many { length places.now ≤ length fields.old }
+    ensures { fields.new ≡ map (field_of_place settings.now keys.now.colour block.now soft.now) places.now
+        ++ drop (length places.now) fields.old }
 {
     for i in 0..places.len() {
         read_field(
@@ -308,6 +315,113 @@ pub fn read_fields(
             soft,
             scratch,
             &mut fields[i],
+        );
+    }
+}
+
+/// The place of the load of a slot, by what is read of the fields in front of it: where the first half of the slot is
+/// stolen, the last of them tells whether the second half is stolen too.
+pub fn load_by_reading(letter: Letter, mode: Mode, fields: &[Field]) -> Option<Place>
+    ensures { (settings : Settings) (key : List Bool) (soft : List ℤ)
+        → fields.now ≡ map (field_of_place settings key None soft) (places_before_load settings.dir letter)
+        → result ≡ load_place letter mode (second_stolen settings.dir key soft) }
+{
+    match fields.last() {
+        Some(last) => load_place(letter, mode, is_good(last.reading.mark)),
+        None => load_place(letter, mode, false),
+    }
+}
+
+/// Whether values of a half slot channel, in the order of type-3 bits, are read as Good; `reading` is what they are read
+/// as. Where there are none they are not.
+fn reads_good(values: &Option<Soft>, reading: &mut Reading) -> bool
+    requires { IfSome values.now (λ soft. length soft ≡ 216) }
+    ensures { MatchOption values.now (result ≡ false) (λ soft. result ≡ is_good (coded_reading half soft).mark) }
+{
+    match values {
+        Some(values) => {
+            Half::decode3_into(values, reading);
+            is_good(reading.mark)
+        }
+        None => false,
+    }
+}
+
+/// The place of the load of a slot, by the fields in front of it with their values. It rests on what is read of the last
+/// of them only where the first half of a slot of data is stolen; `reading` is then what is read of it.
+pub fn load_by_front(
+    letter: Letter,
+    mode: Mode,
+    fields: &[FrontField],
+    reading: &mut Reading,
+) -> Option<Place>
+    requires { letter ≡ Letter.P → (other : FrontField)
+        → IfSome (slice_index_or fields.now (length fields.now - 1) other).soft (λ values. length values ≡ 216) }
+    ensures { (dir : Dir) (key : List Bool) (soft : List ℤ)
+        → fields.now ≡ map (field_heard dir key None soft) (places_before_load dir letter)
+        → result ≡ load_place letter mode (second_stolen dir key soft) }
+{
+    if letter != Letter::P || mode == Mode::Speech {
+        return load_place(letter, mode, false);
+    }
+    match fields.last() {
+        Some(last) => load_place(letter, mode, reads_good(&last.soft, reading)),
+        None => load_place(letter, mode, false),
+    }
+}
+
+/// The field of the load with its values, where a slot has one, written over the last of the fields that are there.
+pub fn hear_load(
+    dir: Dir,
+    load: Option<Place>,
+    keys: &Keys,
+    block: &Option<Soft>,
+    soft: &[i16; 510],
+    type5: &mut Soft,
+    fields: &mut [FrontField],
+)
+    requires soft { AllSoft soft.now }
+    requires none { keys.now.none ≡ zero_key_bits }
+    requires place { IfSome load (FitsSpot dir) }
+    requires there { IfSome load (λ place. 1 ≤ length fields.old) }
+    ensures { MatchOption load (fields.new ≡ fields.old) (λ place. fields.new
+        ≡ slice_set fields.old (length fields.old - 1) (field_heard dir keys.now.colour block.now soft.now place)) }
+{
+    if let Some(load) = load {
+        let last = fields.len() - 1;
+        hear_field(dir, load, keys, block, soft, type5, &mut fields[last]);
+    }
+}
+
+/// The field of the load with what is read of it, where a slot has one, written over the last of the fields that are
+/// there.
+pub fn read_load(
+    settings: &Settings,
+    load: Option<Place>,
+    keys: &Keys,
+    block: &Option<Soft>,
+    soft: &[i16; 510],
+    scratch: &mut Scratch,
+    fields: &mut [Field],
+)
+    requires soft { AllSoft soft.now }
+    requires none { keys.now.none ≡ zero_key_bits }
+    requires place { IfSome load (FitsSpot settings.now.dir) }
+    requires block { IfSome block.now (λ values. length values ≡ 432) }
+    requires there { IfSome load (λ place. 1 ≤ length fields.old) }
+    ensures { MatchOption load (fields.new ≡ fields.old) (λ place. fields.new
+        ≡ slice_set fields.old (length fields.old - 1) (field_of_place settings.now keys.now.colour block.now soft.now place)) }
+{
+    if let Some(load) = load {
+        let last = fields.len() - 1;
+        read_field(
+            settings,
+            load,
+            keys,
+            block,
+            soft,
+            scratch,
+            &mut fields[last],
         );
     }
 }

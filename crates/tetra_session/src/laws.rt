@@ -5,7 +5,7 @@ ghost use Rattle.tetra_session.specs.Data.{DataArrives};
 
 use tetra_bursts::{fields_arrive, kind_arrives, written_arrives};
 use tetra_channels::{Aach, Bsch, Data24, Data48, Full, Half, Hu, Raw72};
-use tetra_diag::undamaged_arrives;
+use tetra_diag::{none_wrong_arrives, undamaged_arrives};
 use tetra_scramble::{flipped_back, stays_undamaged};
 use tetra_speech::{undamaged_speech_arrives, undamaged_speech_is_read};
 
@@ -21,9 +21,11 @@ pub fn heard_apart()
     ensures { HeardApart }
 {}
 
-/// A law: an undamaged slot of letter F, H, S, T or C, after any others, has the letter that was written. Its fields
-/// equal the blocks, with their parity where they have one, but for the field of a subslot that was silent; the metric is
-/// 0, and the mark is Good where there is parity. Of protected data `data_arrives` says the same.
+/// A law: an undamaged slot, after any others, has the letter that was written, and P where Q was written. Its fields
+/// equal the blocks, with their parity where they have one; the metric is 0, and the mark is Good where there is parity.
+/// Of unprotected data whose first half was stolen the bits may stand before the written ones in bit order. Nothing is
+/// said of a subslot that was silent, nor in P of the second half slot channel where none was sent, nor of speech where
+/// none was sent. Of protected data `data_arrives` says the same.
 pub fn slots_arrive()
     ensures { SlotsArrive }
 {
@@ -32,6 +34,7 @@ pub fn slots_arrive()
     Bsch::undamaged_is_read();
     Hu::undamaged_is_read();
     Raw72::undamaged_is_read();
+    Raw72::none_wrong_is_read();
     Aach::undamaged_is_read();
     undamaged_speech_arrives();
     undamaged_speech_is_read();
@@ -42,8 +45,8 @@ pub fn slots_arrive()
 }
 
 /// A law: of a timeslot of protected data over N slots, after any others, the field is not yet there in the first N - 1
-/// traffic slots. Where the N slots of a block all came undamaged, it is read as written, with metric 0, at the last of
-/// them.
+/// traffic slots. Where the N slots of a block all came undamaged, it is read at the last of them with metric 0: as
+/// written, or, where something was stolen of them, as that or a block that stands before it in bit order.
 pub fn data_arrives()
     ensures { DataArrives }
 {
@@ -51,8 +54,15 @@ pub fn data_arrives()
     Data24::undamaged_word_arrives();
     Data48::undamaged_word_is_read();
     Data24::undamaged_word_is_read();
+    Data48::none_wrong_word_arrives();
+    Data24::none_wrong_word_arrives();
+    Data48::none_wrong_word_is_read();
+    Data24::none_wrong_word_is_read();
+    Half::undamaged_is_read();
     undamaged_arrives();
+    none_wrong_arrives();
     fields_arrive();
+    kind_arrives();
 }
 
 /// A law: a slot that is received as it was written is undamaged. It has 510 soft values.

@@ -1,7 +1,6 @@
 //! The four timeslots of a session: what is sent and what is read, slot by slot.
 #![tactic(auto)]
 
-mod built;
 mod fields;
 mod front;
 mod gathering;
@@ -13,7 +12,6 @@ mod spots;
 mod spreading;
 mod words;
 
-pub use built::{is_built, is_built_letter};
 pub use front::{Front, FrontField};
 pub use laws::{data_arrives, heard_apart, sent_apart, slots_arrive, written_slots_arrive};
 pub use receiver::Receiver;

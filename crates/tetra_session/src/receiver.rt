@@ -1,22 +1,22 @@
 // Receiving, slot by slot.
-ghost use Rattle.std.specs.Prelude.{◌≡◌, ◌<◌, ◌≤◌, ◌+◌, ◌++◌, ◌∷◌, [], List, ℕ, ℤ, IsTrue, IfSome, All, length};
+ghost use Rattle.std.specs.Prelude.{◌≡◌, ◌<◌, ◌≤◌, ◌+◌, ◌++◌, ◌∷◌, [], List, ℕ, ℤ, IfSome, All, length, map};
 ghost use Rattle.tetra_bits.specs.Soft.{AllSoft, AllWithin};
 ghost use Rattle.tetra_scramble.specs.Key.{key_of, zero_key_bits};
 ghost use Rattle.tetra_settings.specs.Validity.{IsValid};
-ghost use Rattle.tetra_session.specs.Built.{is_built};
 ghost use Rattle.tetra_session.specs.lemmas.Valid.{IsValid-prop};
 
 use crate::fields::{
-    Scratch, allowed_in, gather, hear_fields, keep_fields, letter_by, read_fields,
+    Scratch, allowed_in, gather, hear_fields, hear_load, keep_fields, letter_by, load_by_front,
+    load_by_reading, read_fields, read_load,
 };
-use crate::front::Front;
+use crate::front::{Front, FrontField};
 use crate::gathering::GatherLane;
 use crate::keys::Keys;
-use crate::spots::{Place, is_downlink, places};
+use crate::spots::{Place, has_load, is_downlink, places_before_load};
 use arrayvec::ArrayVec;
-use tetra_bits::Soft;
+use tetra_bits::{Bits, Mark, Reading, Soft};
 use tetra_bursts::{field_sizes, kind};
-use tetra_settings::{Letter, Settings, SlotReading, SlotUse, clock, mode_at, slot_use};
+use tetra_settings::{Field, Letter, Settings, SlotReading, clock, mode_at, slot_use};
 
 /// A receiver of slots, four timeslots side by side. It stands for its settings and for the slots that it was given so
 /// far. This project's own.
@@ -31,26 +31,25 @@ pub struct Receiver {
     /// The block of protected data that was complete with the last slot, where one was.
     block: Option<Soft>,
     scratch: Scratch,
+    /// What block 2 of the last slot of data whose first half was stolen was read as, by `front`.
+    half: Reading,
     ghost valid: { IsValid settings } by { IsValid-prop settings },
-    ghost built: { IsTrue (is_built settings) },
     ghost keyed: { keys.colour ≡ key_of settings.colour },
     ghost none_keyed: { keys.none ≡ zero_key_bits },
 }
 
 impl Receiver {
-    ghost use Rattle.tetra_session.specs.Built.{IsBuilt, IsBuiltLetter};
     ghost use Rattle.tetra_settings.specs.Readings.{IsWellFormed};
     ghost use Rattle.tetra_session.specs.Fronts.{IsFront, IsBounded};
     ghost use Rattle.tetra_settings.specs.Slots.{mode_of, use_of};
     ghost use Rattle.tetra_settings.specs.declared.slots.SlotUse.TheVariants as SlotUse;
     ghost use Rattle.tetra_session.specs.Time.{depth};
-    ghost use Rattle.tetra_session.specs.Spots.{ArePlaces, places_of};
-    ghost use Rattle.tetra_session.specs.Heard.{ReceiverStands, letter_heard, slot_letter, block_heard, slot_front, slot_reading};
+    ghost use Rattle.tetra_session.specs.Spots.{load_place, places_of};
+    ghost use Rattle.tetra_session.specs.Heard.{ReceiverStands, letter_heard, second_stolen, block_heard, field_heard, field_of_place, slot_front, slot_reading};
 
-    /// A receiver before its first slot. The settings are valid, and built ones.
+    /// A receiver before its first slot. The settings are valid.
     pub fn new(settings: &Settings) -> Receiver
         requires valid { IsValid settings.now }
-        requires built { IsBuilt settings.now }
         ensures { ReceiverStands settings.now [] result }
     {
         let [first, second, third, fourth] = settings.modes;
@@ -69,18 +68,16 @@ impl Receiver {
                 type5: Soft::new(),
                 values: Soft::new(),
             },
+            half: Reading {
+                mark: Mark::Unchecked,
+                metric: 0,
+                bits: Bits::new(),
+                potentials: None,
+            },
         }
     }
 
-    /// The letter of the slot whose turn it is, as a byte, by the values of its 510 positions, each
-    /// from -`SOFT_MAX` to `SOFT_MAX`. This changes nothing.
-    pub fn letter(&self, soft: &[i16; 510]) -> u8
-        requires { AllSoft soft.now }
-        ensures { result ≡ slot_letter self.now.settings self.now.turn soft.now }
-    {
-        self.letter_heard(soft).byte()
-    }
-
+    /// The letter of the slot whose turn it is, by the values of its 510 positions.
     #[tactic(auto, unfolding(crate::specs::Heard::letter_heard))]
     fn letter_heard(&self, soft: &[i16; 510]) -> Letter
         requires { AllSoft soft.now }
@@ -91,29 +88,14 @@ impl Receiver {
         letter_by(slot, kind(soft, is_downlink(dir), allowed_in(dir, slot)))
     }
 
-    /// The letter of the slot whose turn it is, and the places of its fields.
-    fn heard(&self, soft: &[i16; 510]) -> (Letter, ArrayVec<Place, 4>)
-        requires soft { AllSoft soft.now }
-        requires built { IsBuiltLetter (slot_letter self.now.settings self.now.turn soft.now) }
-        ensures letter { result.0 ≡ letter_heard self.now.settings self.now.turn soft.now }
-        ensures places { result.1.items ≡ places_of self.now.settings.dir result.0
-            (mode_of self.now.settings self.now.turn) }
-        ensures fit { ArePlaces self.now.settings.dir result.0 result.1.items }
-    {
-        let letter = self.letter_heard(soft);
-        let places = places(
-            self.settings.dir,
-            letter,
-            mode_at(&self.settings, self.turn),
-        );
-        (letter, places)
-    }
-
-    /// Takes the slot whose turn it is into what is kept of its timeslot. `block` is then the block of protected data that
-    /// is complete with it, where one is.
-    fn gather(&mut self, soft: &[i16; 510])
+    /// Takes the slot whose turn it is, with the place of its load, into what is kept of its timeslot. `block` is then the
+    /// block of protected data that is complete with it, where one is.
+    fn gather(&mut self, load: Option<Place>, soft: &[i16; 510])
         requires few { self.old.turn < 16777216 }
         requires soft { AllSoft soft.now }
+        requires load { load ≡ load_place (letter_heard self.old.settings self.old.turn soft.now)
+            (mode_of self.old.settings self.old.turn)
+            (second_stolen self.old.settings.dir self.old.keys.colour soft.now) }
         ensures settings { self.new.settings ≡ self.old.settings }
         ensures keys { self.new.keys ≡ self.old.keys }
         ensures turn { self.new.turn ≡ self.old.turn + 1 }
@@ -126,29 +108,119 @@ impl Receiver {
     {
         let turn = self.turn;
         self.turn += 1;
-        if slot_use(&self.settings, turn) != SlotUse::Traffic {
-            self.block = None;
-            return;
-        }
         let (timeslot, _, _) = clock(self.settings.at, turn);
-        gather(
-            &mut self.lanes[usize::from(timeslot) - 1],
-            self.settings.dir,
-            mode_at(&self.settings, turn),
+        match load {
+            Some(load) => gather(
+                &mut self.lanes[usize::from(timeslot) - 1],
+                self.settings.dir,
+                load,
+                &self.keys,
+                soft,
+                &mut self.scratch,
+                &mut self.block,
+            ),
+            None => self.block = None,
+        }
+    }
+
+    /// Takes the slot whose turn it is, of this letter, and writes its fields with their values over those that are there.
+    fn hear_slot(&mut self, letter: Letter, soft: &[i16; 510], fields: &mut ArrayVec<FrontField, 4>)
+        requires few { self.old.turn < 16777216 }
+        requires soft { AllSoft soft.now }
+        requires letter { letter ≡ letter_heard self.old.settings self.old.turn soft.now }
+        ensures fields { fields.new.items
+            ≡ map (field_heard self.old.settings.dir self.old.keys.colour self.new.block soft.now)
+            (places_of self.old.settings.dir letter (mode_of self.old.settings self.old.turn)
+            (second_stolen self.old.settings.dir self.old.keys.colour soft.now)) }
+        ensures block { (settings : _) (history : List (List ℤ)) → ReceiverStands settings history self.old
+            → use_of settings (length history) ≡ SlotUse.Traffic → 1 ≤ depth (mode_of settings (length history))
+            → self.new.block ≡ block_heard settings history soft.now }
+        ensures size { IfSome self.new.block (λ values. length values ≡ 432) }
+        ensures stands { (settings : _) (history : List (List ℤ)) → ReceiverStands settings history self.old
+            → ReceiverStands settings (history ++ soft.now ∷ []) self.new }
+    {
+        let dir = self.settings.dir;
+        let places = places_before_load(dir, letter);
+        keep_fields(fields, places.len() + usize::from(has_load(letter)));
+        hear_fields(
+            dir,
+            &places,
             &self.keys,
+            &None,
+            soft,
+            &mut self.scratch.type5,
+            fields,
+        );
+        let load = load_by_front(
+            letter,
+            mode_at(&self.settings, self.turn),
+            &fields[..places.len()],
+            &mut self.half,
+        );
+        self.gather(load, soft);
+        hear_load(
+            dir,
+            load,
+            &self.keys,
+            &self.block,
+            soft,
+            &mut self.scratch.type5,
+            fields,
+        );
+    }
+
+    /// Takes the slot whose turn it is, of this letter, and writes its fields with what is read of them over those that
+    /// are there.
+    fn read_slot(&mut self, letter: Letter, soft: &[i16; 510], fields: &mut ArrayVec<Field, 4>)
+        requires few { self.old.turn < 16777216 }
+        requires soft { AllSoft soft.now }
+        requires letter { letter ≡ letter_heard self.old.settings self.old.turn soft.now }
+        ensures fields { fields.new.items
+            ≡ map (field_of_place self.old.settings self.old.keys.colour self.new.block soft.now)
+            (places_of self.old.settings.dir letter (mode_of self.old.settings self.old.turn)
+            (second_stolen self.old.settings.dir self.old.keys.colour soft.now)) }
+        ensures block { (settings : _) (history : List (List ℤ)) → ReceiverStands settings history self.old
+            → use_of settings (length history) ≡ SlotUse.Traffic → 1 ≤ depth (mode_of settings (length history))
+            → self.new.block ≡ block_heard settings history soft.now }
+        ensures size { IfSome self.new.block (λ values. length values ≡ 432) }
+        ensures stands { (settings : _) (history : List (List ℤ)) → ReceiverStands settings history self.old
+            → ReceiverStands settings (history ++ soft.now ∷ []) self.new }
+    {
+        let places = places_before_load(self.settings.dir, letter);
+        keep_fields(fields, places.len() + usize::from(has_load(letter)));
+        read_fields(
+            &self.settings,
+            &places,
+            &self.keys,
+            &None,
             soft,
             &mut self.scratch,
-            &mut self.block,
-        )
+            fields,
+        );
+        let load = load_by_reading(
+            letter,
+            mode_at(&self.settings, self.turn),
+            &fields[..places.len()],
+        );
+        self.gather(load, soft);
+        read_load(
+            &self.settings,
+            load,
+            &self.keys,
+            &self.block,
+            soft,
+            &mut self.scratch,
+            fields,
+        );
     }
 
     /// The letter of the slot whose turn it is, and the soft values of its fields, from the values of
-    /// its 510 positions, each from -`SOFT_MAX` to `SOFT_MAX`. The letter is a built one. Each call is one slot;
-    /// there are at most 16,777,216.
+    /// its 510 positions, each from -`SOFT_MAX` to `SOFT_MAX`. Of data whose first half is stolen the values of block 1
+    /// count 0, and those of block 2 where that is read as a half slot channel and is Good: for this it is decoded here.
+    /// Each call is one slot; there are at most 16,777,216.
     pub fn front(&mut self, soft: &[i16; 510]) -> Front
         requires few { self.old.turn < 16777216 }
         requires soft { AllSoft soft.now }
-        requires built { IsBuiltLetter (slot_letter self.old.settings self.old.turn soft.now) }
         ensures front { (settings : _) (history : List (List ℤ)) → ReceiverStands settings history self.old
             → result ≡ slot_front settings history soft.now }
         ensures well_formed { IsFront result }
@@ -167,36 +239,24 @@ impl Receiver {
     pub fn front_into(&mut self, soft: &[i16; 510], front: &mut Front)
         requires few { self.old.turn < 16777216 }
         requires soft { AllSoft soft.now }
-        requires built { IsBuiltLetter (slot_letter self.old.settings self.old.turn soft.now) }
         ensures front { (settings : _) (history : List (List ℤ)) → ReceiverStands settings history self.old
             → front.new ≡ slot_front settings history soft.now }
         ensures well_formed { IsFront front.new }
         ensures stands { (settings : _) (history : List (List ℤ)) → ReceiverStands settings history self.old
             → ReceiverStands settings (history ++ soft.now ∷ []) self.new }
     {
-        let (letter, places) = self.heard(soft);
-        self.gather(soft);
+        let letter = self.letter_heard(soft);
         front.letter = letter.byte();
-        keep_fields(&mut front.fields, places.len());
-        hear_fields(
-            self.settings.dir,
-            &places,
-            &self.keys,
-            &self.block,
-            soft,
-            &mut self.scratch.type5,
-            &mut front.fields,
-        );
+        self.hear_slot(letter, soft, &mut front.fields);
         field_sizes();
     }
 
     /// The reading of the slot whose turn it is, from the values of its 510 positions, each from -`SOFT_MAX` to
-    /// `SOFT_MAX`: of each field the first-least message with its metric and its mark. The letter is a built one. Each
-    /// call is one slot; there are at most 16,777,216.
+    /// `SOFT_MAX`: of each field the first-least message with its metric and its mark. Each call is one slot; there are at
+    /// most 16,777,216.
     pub fn slot(&mut self, soft: &[i16; 510]) -> SlotReading
         requires few { self.old.turn < 16777216 }
         requires soft { AllSoft soft.now }
-        requires built { IsBuiltLetter (slot_letter self.old.settings self.old.turn soft.now) }
         ensures reading { (settings : _) (history : List (List ℤ)) → ReceiverStands settings history self.old
             → result ≡ slot_reading settings history soft.now }
         ensures well_formed { IsWellFormed result }
@@ -217,7 +277,6 @@ impl Receiver {
     pub fn slot_into(&mut self, soft: &[i16; 510], reading: &mut SlotReading)
         requires few { self.old.turn < 16777216 }
         requires soft { AllSoft soft.now }
-        requires built { IsBuiltLetter (slot_letter self.old.settings self.old.turn soft.now) }
         ensures reading { (settings : _) (history : List (List ℤ)) → ReceiverStands settings history self.old
             → reading.new ≡ slot_reading settings history soft.now }
         ensures well_formed { IsWellFormed reading.new }
@@ -226,19 +285,9 @@ impl Receiver {
         ensures stands { (settings : _) (history : List (List ℤ)) → ReceiverStands settings history self.old
             → ReceiverStands settings (history ++ soft.now ∷ []) self.new }
     {
-        let (letter, places) = self.heard(soft);
-        self.gather(soft);
+        let letter = self.letter_heard(soft);
         reading.letter = letter.byte();
-        keep_fields(&mut reading.fields, places.len());
-        read_fields(
-            &self.settings,
-            &places,
-            &self.keys,
-            &self.block,
-            soft,
-            &mut self.scratch,
-            &mut reading.fields,
-        );
+        self.read_slot(letter, soft, &mut reading.fields);
         field_sizes();
     }
 }

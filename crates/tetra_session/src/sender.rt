@@ -1,12 +1,11 @@
 // Sending, slot by slot.
-ghost use Rattle.std.specs.Prelude.{◌≡◌, ◌≢◌, ◌<◌, ◌++◌, ◌∷◌, [], List, IsTrue, IfSome, length};
+ghost use Rattle.std.specs.Prelude.{◌≡◌, ◌≢◌, ◌<◌, ◌++◌, ◌∷◌, [], List, IfSome, length};
 ghost use Rattle.tetra_scramble.specs.Key.{key_of, zero_key_bits};
 ghost use Rattle.tetra_settings.specs.Validity.{IsValid};
-ghost use Rattle.tetra_session.specs.Built.{is_built};
 ghost use Rattle.tetra_session.specs.lemmas.Valid.{IsValid-prop};
 
 use crate::keys::Keys;
-use crate::spreading::{SpreadLane, load_word};
+use crate::spreading::{SpreadLane, load_word, rest_word, take_load};
 use crate::words::{first_half, second_half};
 use tetra_bits::Bits;
 use tetra_bursts::{Train, control_up, normal_down, normal_up, sync_down};
@@ -24,7 +23,6 @@ pub struct Sender {
     /// What is kept of timeslots 1 to 4.
     lanes: [SpreadLane; 4],
     ghost valid: { IsValid settings } by { IsValid-prop settings },
-    ghost built: { IsTrue (is_built settings) },
     ghost keyed: { keys.colour ≡ key_of settings.colour },
     ghost none_keyed: { keys.none ≡ zero_key_bits },
 }
@@ -33,16 +31,15 @@ impl Sender {
     ghost use Rattle.std.specs.Option.{option_map};
     ghost use Rattle.tetra_bursts.specs.Bursts.{control_up_slot};
     ghost use Rattle.tetra_session.specs.Sent.{slot_of, access_of, subslot_bits, whole, Normal};
-    ghost use Rattle.tetra_settings.specs.Slots.{byte_of};
-    ghost use Rattle.tetra_settings.specs.Blocks.{Fits, letter_of};
+    ghost use Rattle.tetra_settings.specs.Blocks.{Fits};
     ghost use Rattle.tetra_settings.specs.declared.blocks.SlotBlocks.{SlotBlocks};
-    ghost use Rattle.tetra_session.specs.Built.{IsBuilt, IsBuiltLetter};
+    ghost use Rattle.tetra_bursts.specs.declared.table.Train.TheVariants.{P as PTrain};
+    ghost use Rattle.tetra_channels.specs.Channels.{half, type5_bits};
     ghost use Rattle.tetra_session.specs.Sent.{SenderStands, slot_written};
 
-    /// A sender before its first slot. The settings are valid, and built ones.
+    /// A sender before its first slot. The settings are valid.
     pub fn new(settings: &Settings) -> Sender
         requires valid { IsValid settings.now }
-        requires built { IsBuilt settings.now }
         ensures { SenderStands settings.now [] result }
     {
         let [first, second, third, fourth] = settings.modes;
@@ -59,13 +56,11 @@ impl Sender {
         }
     }
 
-    /// The slot whose turn it is, with these blocks, which fit it and have a built letter: 510
-    /// positions, 127 for bit 0, -127 for bit 1, 0 where the slot is silent (EN 300 392-2 clauses 8
-    /// and 9). There are at most 16,777,216 slots.
+    /// The slot whose turn it is, with these blocks, which fit it: 510 positions, 127 for bit 0, -127 for bit 1, 0 where
+    /// the slot is silent (EN 300 392-2 clauses 8 and 9). There are at most 16,777,216 slots.
     pub fn slot(&mut self, blocks: &SlotBlocks) -> [i8; 510]
         requires few { self.old.turn < 16777216 }
         requires fits { Fits self.old.settings self.old.turn blocks.now }
-        requires built { IsBuiltLetter (byte_of (letter_of blocks.now.body)) }
         ensures slot { (settings : _) (history : List SlotBlocks) → SenderStands settings history self.old
             → result ≡ slot_written settings history blocks.now }
         ensures stands { (settings : _) (history : List SlotBlocks) → SenderStands settings history self.old
@@ -81,12 +76,7 @@ impl Sender {
                 &access,
                 &Full::encode(block, &self.keys.colour),
             ),
-            Body::Halves { first, second } => self.normal(
-                Train::P,
-                &Half::encode(first, &self.keys.colour),
-                &access,
-                &Half::encode(second, &self.keys.colour),
-            ),
+            Body::Halves { first, second } => self.halves(&access, first, second),
             Body::Sync { sync, half } => sync_down(
                 &Bsch::encode(sync, &self.keys.none),
                 &access,
@@ -97,8 +87,21 @@ impl Sender {
                 let word = load_word(lane, mode, load, &self.keys.colour);
                 self.whole(Train::N, &access, &word)
             }
+            Body::Stolen { first, load } => {
+                let lane = &mut self.lanes[usize::from(timeslot) - 1];
+                let rest = rest_word(lane, mode, load, &self.keys.colour);
+                let first = Half::encode(first, &self.keys.colour);
+                self.normal(Train::P, &first, &access, &rest)
+            }
+            Body::Both {
+                first,
+                second,
+                load,
+            } => {
+                take_load(&mut self.lanes[usize::from(timeslot) - 1], mode, load);
+                self.halves(&access, first, second)
+            }
             Body::Control { first, second } => self.control(first.as_ref(), second.as_ref()),
-            Body::Stolen { .. } | Body::Both { .. } => unreachable!(),
         }
     }
 
@@ -136,6 +139,22 @@ impl Sender {
         ensures { result ≡ slot_of self.now.settings.dir access.now (whole train word.now) }
     {
         self.normal(train, &first_half(word), access, &second_half(word))
+    }
+
+    /// A normal burst with a half slot channel in each block.
+    fn halves(&self, access: &Bits, first: &Bits, second: &Bits) -> [i8; 510]
+        requires first { length first.now ≡ 124 }
+        requires access { self.now.settings.dir ≡ Dir.Dl → length access.now ≡ 30 }
+        requires second { length second.now ≡ 124 }
+        ensures { result ≡ slot_of self.now.settings.dir access.now (Normal PTrain
+            (type5_bits half self.now.keys.colour first.now) (type5_bits half self.now.keys.colour second.now)) }
+    {
+        self.normal(
+            Train::P,
+            &Half::encode(first, &self.keys.colour),
+            access,
+            &Half::encode(second, &self.keys.colour),
+        )
     }
 
     /// A control burst: the subslots that are sent.

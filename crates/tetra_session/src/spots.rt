@@ -1,8 +1,10 @@
 // Where the fields of a slot stand.
-ghost use Rattle.std.specs.Prelude.{◌≡◌, ◌≤◌, ◌++◌, length};
+ghost use Rattle.std.specs.Prelude.{◌≡◌, ◌≤◌, ◌++◌, Bool, is_some, length, replicate, pos};
 ghost use Rattle.tetra_bits.specs.Soft.{AllSoft};
 ghost use Rattle.tetra_bursts.specs.Fields.{first_half, second_half};
-ghost use Rattle.tetra_session.specs.Spots.{access_spot, body_places, is_downlink, places_of, spot_values, spot_size, HasSpot};
+ghost use Rattle.tetra_settings.specs.Readings.{traffic_name};
+ghost use Rattle.tetra_settings.specs.declared.types.Mode.{Mode};
+ghost use Rattle.tetra_session.specs.Spots.{access_spot, block_places, is_downlink, load_place, places_before_load, rest_spot, spot_values, spot_size, HasSpot};
 
 use arrayvec::ArrayVec;
 use tetra_bits::Soft;
@@ -27,6 +29,10 @@ pub enum Spot {
     SecondBlock,
     /// Block 1 and block 2.
     WholeSlot,
+    /// Block 2, behind 216 values 0 for block 1, which is stolen.
+    Rest,
+    /// 432 values 0: both blocks are stolen.
+    Nowhere,
     /// The first subslot.
     FirstSubslot,
     /// The second subslot.
@@ -52,17 +58,17 @@ impl Default for Place {
     }
 }
 
-/// The places of the fields of a letter, behind the access field. A slot is never read as `Q`.
-fn body_places(letter: Letter, mode: Mode) -> &'static [Place]
-    ensures places { result.now ≡ body_places letter mode }
-    ensures few { length result.now ≤ 3 }
+/// The places of the fields of a letter, behind the access field and in front of the load.
+fn block_places(letter: Letter) -> &'static [Place]
+    ensures places { result.now ≡ block_places letter }
+    ensures few { length result.now ≤ 2 }
 {
     match letter {
         Letter::F => &[Place {
             name: FieldName::Full,
             spot: Spot::WholeSlot,
         }],
-        Letter::H => &[
+        Letter::H | Letter::P => &[
             Place {
                 name: FieldName::Half,
                 spot: Spot::FirstBlock,
@@ -82,9 +88,6 @@ fn body_places(letter: Letter, mode: Mode) -> &'static [Place]
                 spot: Spot::SecondBlock,
             },
         ],
-        Letter::T => traffic_places(mode),
-        Letter::P => stolen_places(mode),
-        Letter::Q => &[],
         Letter::C => &[
             Place {
                 name: FieldName::Hu,
@@ -95,96 +98,47 @@ fn body_places(letter: Letter, mode: Mode) -> &'static [Place]
                 spot: Spot::SecondSubslot,
             },
         ],
+        Letter::T | Letter::Q => &[],
     }
 }
 
-/// The place of the load of a whole traffic slot.
-fn traffic_places(mode: Mode) -> &'static [Place]
-    ensures places { result.now ≡ body_places Letter.T mode }
-    ensures few { length result.now ≤ 3 }
+/// The field of the load of a traffic slot in this mode; speech gives the name for speech.
+fn traffic_name(mode: Mode, speech: FieldName) -> FieldName
+    ensures { result ≡ traffic_name mode speech }
 {
     match mode {
-        Mode::D72 => &[Place {
-            name: FieldName::D72,
-            spot: Spot::WholeSlot,
-        }],
-        Mode::D48(_) => &[Place {
-            name: FieldName::D48,
-            spot: Spot::WholeSlot,
-        }],
-        Mode::D24(_) => &[Place {
-            name: FieldName::D24,
-            spot: Spot::WholeSlot,
-        }],
-        Mode::Speech | Mode::Sig | Mode::Cb => &[Place {
-            name: FieldName::Whole,
-            spot: Spot::WholeSlot,
-        }],
+        Mode::D72 => FieldName::D72,
+        Mode::D48(_) => FieldName::D48,
+        Mode::D24(_) => FieldName::D24,
+        Mode::Speech | Mode::Sig | Mode::Cb => speech,
     }
 }
 
-/// The places of the fields of a slot whose first half is stolen. Its load is speech in the second half, or data.
-fn stolen_places(mode: Mode) -> &'static [Place]
-    ensures places { result.now ≡ body_places Letter.P mode }
-    ensures few { length result.now ≤ 3 }
+/// Where the load of a slot stands whose first half is stolen: of data what is left of it, speech in block 2.
+fn rest_spot(mode: Mode, second_stolen: bool) -> Spot
+    ensures { result ≡ rest_spot mode second_stolen }
 {
-    match mode {
-        Mode::D72 => &[
-            Place {
-                name: FieldName::Half,
-                spot: Spot::FirstBlock,
-            },
-            Place {
-                name: FieldName::Half,
-                spot: Spot::SecondBlock,
-            },
-            Place {
-                name: FieldName::D72,
-                spot: Spot::WholeSlot,
-            },
-        ],
-        Mode::D48(_) => &[
-            Place {
-                name: FieldName::Half,
-                spot: Spot::FirstBlock,
-            },
-            Place {
-                name: FieldName::Half,
-                spot: Spot::SecondBlock,
-            },
-            Place {
-                name: FieldName::D48,
-                spot: Spot::WholeSlot,
-            },
-        ],
-        Mode::D24(_) => &[
-            Place {
-                name: FieldName::Half,
-                spot: Spot::FirstBlock,
-            },
-            Place {
-                name: FieldName::Half,
-                spot: Spot::SecondBlock,
-            },
-            Place {
-                name: FieldName::D24,
-                spot: Spot::WholeSlot,
-            },
-        ],
-        Mode::Speech | Mode::Sig | Mode::Cb => &[
-            Place {
-                name: FieldName::Half,
-                spot: Spot::FirstBlock,
-            },
-            Place {
-                name: FieldName::Half,
-                spot: Spot::SecondBlock,
-            },
-            Place {
-                name: FieldName::Single,
-                spot: Spot::SecondBlock,
-            },
-        ],
+    match (mode, second_stolen) {
+        (Mode::D72 | Mode::D48(_) | Mode::D24(_), false) => Spot::Rest,
+        (Mode::D72 | Mode::D48(_) | Mode::D24(_), true) => Spot::Nowhere,
+        (Mode::Speech | Mode::Sig | Mode::Cb, _) => Spot::SecondBlock,
+    }
+}
+
+/// The place of the load of a slot, where it has one. A slot is never read as `Q`.
+pub fn load_place(letter: Letter, mode: Mode, second_stolen: bool) -> Option<Place>
+    ensures { result ≡ load_place letter mode second_stolen }
+{
+    match letter {
+        Letter::T => Some(Place {
+            name: traffic_name(mode, FieldName::Whole),
+            spot: Spot::WholeSlot,
+        }),
+        Letter::P => Some(Place {
+            name: traffic_name(mode, FieldName::Single),
+            spot: rest_spot(mode, second_stolen),
+        }),
+        Letter::F | Letter::H | Letter::S | Letter::Q | Letter::C => None,
     }
 }
 
@@ -198,9 +152,19 @@ fn access_spot(letter: Letter) -> Spot
     }
 }
 
-/// The places of all fields of a slot, on the downlink the access field in front.
-pub fn places(dir: Dir, letter: Letter, mode: Mode) -> ArrayVec<Place, 4>
-    ensures { result.items ≡ places_of dir letter mode }
+/// Whether a slot of this letter has a load.
+pub fn has_load(letter: Letter) -> bool
+    ensures { (mode : Mode) (second_stolen : Bool) → result ≡ is_some (load_place letter mode second_stolen) }
+{
+    match letter {
+        Letter::T | Letter::P => true,
+        Letter::F | Letter::H | Letter::S | Letter::Q | Letter::C => false,
+    }
+}
+
+/// The places of the fields in front of the load, on the downlink with the access field before them.
+pub fn places_before_load(dir: Dir, letter: Letter) -> ArrayVec<Place, 3>
+    ensures { result.items ≡ places_before_load dir letter }
 {
     let mut places = ArrayVec::new();
     if dir == Dir::Dl {
@@ -209,9 +173,7 @@ pub fn places(dir: Dir, letter: Letter, mode: Mode) -> ArrayVec<Place, 4>
             spot: access_spot(letter),
         });
     }
-    places
-        .try_extend_from_slice(body_places(letter, mode))
-        .unwrap();
+    places.try_extend_from_slice(block_places(letter)).unwrap();
     places
 }
 
@@ -240,6 +202,8 @@ pub fn spot_into(dir: Dir, spot: Spot, soft: &[i16; 510], values: &mut Soft)
         Spot::FirstBlock => first_half_into(soft, dl, values),
         Spot::SecondBlock => second_half_into(soft, dl, values),
         Spot::WholeSlot => whole_into(soft, dl, values),
+        Spot::Rest => rest_into(soft, dl, values),
+        Spot::Nowhere => silent_into(values, 432),
         Spot::FirstSubslot => sub_first_into(soft, dl, values),
         Spot::SecondSubslot => sub_second_into(soft, dl, values),
     }
@@ -256,4 +220,27 @@ fn whole_into(soft: &[i16; 510], dl: bool, values: &mut Soft)
     for i in 0..second.len() {
         values.push(second.get(i));
     }
+}
+
+/// Block 2, behind values 0 for block 1.
+fn rest_into(soft: &[i16; 510], dl: bool, values: &mut Soft)
+    requires { AllSoft soft.now }
+    ensures values { values.new ≡ replicate 216 (pos 0) ++ second_half dl soft.now }
+    ensures size { length values.new ≡ 432 }
+{
+    silent_into(values, 216);
+    let second = second_half(soft, dl);
+    for i in 0..second.len() {
+        values.push(second.get(i));
+    }
+}
+
+/// So many values 0, which say nothing.
+fn silent_into(values: &mut Soft, count: usize)
+    requires { count ≤ 432 }
+    ensures values { values.new ≡ replicate count (pos 0) }
+    ensures size { length values.new ≡ count }
+{
+    values.clear();
+    values.resize(count);
 }

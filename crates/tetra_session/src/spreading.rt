@@ -1,19 +1,19 @@
 // Spreading the blocks of a timeslot over its slots.
-ghost use Rattle.std.specs.Prelude.{◌≡◌, ◌≤◌, ◌++◌, ◌∷◌, [], ℕ, Bool, List, IsTrue, length};
+ghost use Rattle.std.specs.Prelude.{◌≡◌, ◌≤◌, ◌++◌, ◌∷◌, [], ℕ, Bool, List, length};
 ghost use Rattle.tetra_diag.specs.Diagonal.{spread_word};
 ghost use Rattle.tetra_settings.specs.Blocks.{IsTrafficMode, load_bits};
 ghost use Rattle.tetra_settings.specs.declared.slots.Letter.TheVariants as Letter;
 ghost use Rattle.tetra_settings.specs.declared.types.Mode.TheVariants as Mode;
-ghost use Rattle.tetra_session.specs.Built.{is_built_mode};
-ghost use Rattle.tetra_session.specs.Sent.{SpreadLaneStands, data_block, load_word};
+ghost use Rattle.tetra_session.specs.Sent.{SpreadLaneStands, data_block, load_word, rest_word};
 ghost use Rattle.tetra_session.specs.Time.{depth, span_slots};
 
+use crate::words::second_half;
 use tetra_bits::Bits;
 use tetra_channels::{Data24, Data48, Raw72};
 use tetra_diag::Spread;
 use tetra_scramble::{Key, flip_bits};
 use tetra_settings::{Mode, Span};
-use tetra_speech::{encode_whole, part};
+use tetra_speech::{encode_half, encode_whole, part};
 
 /// What a sender keeps of one timeslot: the last blocks of protected data, where its mode spreads them over slots.
 #[derive(Drop)]
@@ -71,7 +71,6 @@ impl SpreadLane {
 /// The 432 type-5 bits of the load of a traffic slot of data; protected data is spread over slots.
 pub fn load_word(lane: &mut SpreadLane, mode: Mode, load: &Bits, key: &Key) -> Bits
     requires carries { IsTrafficMode mode }
-    requires built { IsTrue (is_built_mode mode) }
     requires size { length load.now ≡ load_bits mode Letter.T }
     ensures word { (before : List (List Bool)) → SpreadLaneStands (depth mode) before lane.old
         → result ≡ load_word key.now mode before load.now }
@@ -96,4 +95,40 @@ fn speech_word(load: &Bits, key: &Key) -> Bits
 {
     let word = encode_whole(&part(load, 0, 137), &part(load, 137, 137));
     flip_bits(&word, key, 1)
+}
+
+/// The 216 type-5 bits of block 2 of a traffic slot whose first half is stolen: the second half of the word of data, or
+/// one frame of speech.
+pub fn rest_word(lane: &mut SpreadLane, mode: Mode, load: &Bits, key: &Key) -> Bits
+    requires carries { IsTrafficMode mode }
+    requires size { length load.now ≡ load_bits mode Letter.P }
+    ensures word { (before : List (List Bool)) → SpreadLaneStands (depth mode) before lane.old
+        → result ≡ rest_word key.now mode before load.now }
+    ensures stands { (before : List (List Bool)) → SpreadLaneStands (depth mode) before lane.old
+        → SpreadLaneStands (depth mode) (before ++ data_block mode load.now ∷ []) lane.new }
+    ensures size { length result ≡ 216 }
+{
+    match mode {
+        Mode::D72 | Mode::D48(_) | Mode::D24(_) => second_half(&load_word(lane, mode, load, key)),
+        Mode::Speech => flip_bits(&encode_half(load), key, 1),
+        Mode::Sig | Mode::Cb => unreachable!(),
+    }
+}
+
+/// Takes a load that is not sent, since both halves of its slot are stolen: a block of protected data is spread over
+/// slots as any other.
+pub fn take_load(lane: &mut SpreadLane, mode: Mode, load: &Bits)
+    requires { length load.now ≡ load_bits mode Letter.Q }
+    ensures { (before : List (List Bool)) → SpreadLaneStands (depth mode) before lane.old
+        → SpreadLaneStands (depth mode) (before ++ data_block mode load.now ∷ []) lane.new }
+{
+    match mode {
+        Mode::D48(_) => {
+            lane.push(&Data48::type3(load));
+        }
+        Mode::D24(_) => {
+            lane.push(&Data24::type3(load));
+        }
+        Mode::D72 | Mode::Speech | Mode::Sig | Mode::Cb => {}
+    }
 }

@@ -1,8 +1,8 @@
 -- The values of the fields of a slot: how many they are, and how great.
-use Rattle.std.proofs.Common.{◌≡◌, ℕ, ◌+◌, ◌-◌, Bool, true, false, cond, nat_lt, List, [], ◌∷◌, ◌++◌, Option, None, Some, ℤ, pos, length, take, drop, refl, ◌∙◌}
+use Rattle.std.proofs.Common.{◌≡◌, ℕ, ◌+◌, ◌-◌, Bool, true, false, cond, nat_lt, List, [], ◌∷◌, ◌++◌, Option, None, Some, ℤ, pos, length, replicate, take, drop, refl, ap, ◌∙◌}
 use Rattle.std.specs.Prelude.{All, MatchOption, IfSome}
-use Rattle.std.proofs.lemmas.List.{length-append}
-use Rattle.std.proofs.lemmas.List.Elements.{All-nil, All-cons, All-head, All-tail, All-append, All-push, All-map, All-weaker, All-take, All-drop}
+use Rattle.std.proofs.lemmas.List.{length-append, length-replicate}
+use Rattle.std.proofs.lemmas.List.Elements.{All-nil, All-cons, All-head, All-tail, All-append, All-push, All-map, All-weaker, All-take, All-drop, All-replicate}
 use Rattle.tetra_bits.specs.Numbered.{numbered, all_numbered, length-numbered}
 use Rattle.tetra_bits.specs.Soft.{IsWithin, AllWithin}
 use Rattle.tetra_bits.specs.lemmas.Within.{within_at}
@@ -23,20 +23,20 @@ use Rattle.tetra_scramble.specs.Flips.{turned}
 use Rattle.tetra_scramble.specs.lemmas.Entries.{length-turned, turned_within}
 use Rattle.tetra_scramble.specs.Key.{key_of}
 use Rattle.tetra_speech.specs.Words.{whole_front, half_front}
-use Rattle.tetra_settings.specs.Readings.{sizes, MayBeNotYet, traffic_name}
+use Rattle.tetra_settings.specs.Readings.{sizes, MayBeNotYet}
 use Rattle.tetra_settings.specs.Slots.{timeslot_of, mode_of}
 use Rattle.tetra_settings.specs.declared.types.Dir.{Dir}
 use Rattle.tetra_settings.specs.declared.types.Mode.{Mode}
 use Rattle.tetra_settings.specs.declared.types.Settings.{Settings}
 use Rattle.tetra_settings.specs.declared.readings.FieldName.{FieldName}
 use Rattle.tetra_settings.specs.declared.readings.FieldName.TheVariants.{Aach, Sync, Half, Hu, Full, D72, D48, D24, Whole, Single}
-use Rattle.tetra_session.specs.Heard.{key_for, place_values, word_heard, words_heard, block_heard, is_spread, values_of}
+use Rattle.tetra_session.specs.Heard.{key_for, place_values, second_stolen, traffic_letter, values_there, word_heard, words_heard, block_heard, is_spread, values_of}
 use Rattle.tetra_session.specs.Readers.{Reader, Access, Plain, Trellis, WholeSpeech, HalfSpeech, reader, heard_by}
-use Rattle.tetra_session.specs.Spots.{is_downlink, place, spot_values, spot_size, FitsSpot}
+use Rattle.tetra_session.specs.Spots.{is_downlink, load_place, spot_values, spot_size, FitsSpot}
 use Rattle.tetra_session.specs.Time.{timeslot_mode, depth, counts, picked, own}
 use Rattle.tetra_session.specs.declared.spots.Place.{Place}
 use Rattle.tetra_session.specs.declared.spots.Spot.{Spot}
-use Rattle.tetra_session.specs.declared.spots.Spot.TheVariants.{Access as AccessSpot, SyncAccess, Sync as SyncSpot, FirstBlock, SecondBlock, WholeSlot, FirstSubslot, SecondSubslot}
+use Rattle.tetra_session.specs.declared.spots.Spot.TheVariants.{Access as AccessSpot, SyncAccess, Sync as SyncSpot, FirstBlock, SecondBlock, WholeSlot, Rest, Nowhere, FirstSubslot, SecondSubslot}
 
 -- what is read from values within top is within top
 kept : (top : ℕ) (b : Bool) (n : ℕ) (soft : List ℤ) → AllWithin top soft → AllWithin top (cond b (take n soft) [])
@@ -50,6 +50,12 @@ read_within top part (s ∷ rest) soft all =
     All-append (IsWithin top) (cond (is_part part s.part) (take s.count soft) []) (read part rest (drop s.count soft))
     (kept top (is_part part s.part) s.count soft all) (read_within top part rest (drop s.count soft) (All-drop (IsWithin top) s.count soft all))
 
+zero_within : (top : ℕ) → IsWithin top (pos 0)
+zero_within top = within_at top [] (All-nil (IsWithin top)) 0
+
+silent_within : (top n : ℕ) → AllWithin top (replicate n (pos 0))
+silent_within top n = All-replicate (IsWithin top) n (pos 0) (zero_within top)
+
 pub spot_within : (top : ℕ) (dir : Dir) (spot : Spot) (soft : List ℤ) → AllWithin top soft → AllWithin top (spot_values dir spot soft)
 unfolding first_half second_half sync_field aach_field aach_sync sub_first sub_second
 spot_within top dir AccessSpot soft all = read_within top AachPart (normal_down N) soft all
@@ -60,6 +66,10 @@ spot_within top dir SecondBlock soft all = read_within top Second (halves (is_do
 spot_within top dir WholeSlot soft all =
     All-append (IsWithin top) (first_half (is_downlink dir) soft) (second_half (is_downlink dir) soft)
     (read_within top First (halves (is_downlink dir)) soft all) (read_within top Second (halves (is_downlink dir)) soft all)
+spot_within top dir Rest soft all =
+    All-append (IsWithin top) (replicate 216 (pos 0)) (second_half (is_downlink dir) soft)
+    (silent_within top 216) (read_within top Second (halves (is_downlink dir)) soft all)
+spot_within top dir Nowhere soft all = silent_within top 432
 spot_within top dir FirstSubslot soft all = read_within top First control_up soft all
 spot_within top dir SecondSubslot soft all = read_within top Second control_up soft all
 
@@ -96,6 +106,11 @@ spot_length law dir WholeSlot soft h =
     let first = (law soft h).block_1 (is_downlink dir) in
     let second = (law soft h).block_2 (is_downlink dir) in
     length-append (first_half (is_downlink dir) soft) (second_half (is_downlink dir) soft) ∙ rw (first, second) refl
+spot_length law dir Rest soft h =
+    let second = (law soft h).block_2 (is_downlink dir) in
+    length-append (replicate 216 (pos 0)) (second_half (is_downlink dir) soft)
+    ∙ ap (λ n. length (replicate 216 (pos 0)) + n) second ∙ ap (λ n. n + 216) (length-replicate 216 (pos 0))
+spot_length law dir Nowhere soft h = length-replicate 432 (pos 0)
 spot_length law dir FirstSubslot soft h = (law soft h).subslot_1
 spot_length law dir SecondSubslot soft h = (law soft h).subslot_2
 
@@ -155,9 +170,14 @@ own_all : {X : Type 0} (P : X → Type 0) (at c : ℕ) (history : List X) → Al
 unfolding own
 own_all P at c history all = picked_all P (counts at c) 0 history all
 
+there_within : (top : ℕ) (dir : Dir) (key : List Bool) (soft : List ℤ) (load : Option Place) → AllWithin top soft → AllWithin top (values_there dir key soft load)
+there_within top dir key soft None all = All-nil (IsWithin top)
+there_within top dir key soft (Some load) all = place_within top dir key soft load all
+
 pub word_within : (top : ℕ) (dir : Dir) (key : List Bool) (mode : Mode) (soft : List ℤ) → AllWithin top soft → AllWithin top (word_heard dir key mode soft)
 unfolding word_heard
-word_within top dir key mode soft all = place_within top dir key soft (place (traffic_name mode Whole) WholeSlot) all
+word_within top dir key mode soft all =
+    there_within top dir key soft (load_place (traffic_letter dir soft) mode (second_stolen dir key soft)) all
 
 words_within : (top : ℕ) (settings : Settings) (c : ℕ) (history : List (List ℤ)) → All (AllWithin top) history → All (AllWithin top) (words_heard settings c history)
 words_within top settings c history all =

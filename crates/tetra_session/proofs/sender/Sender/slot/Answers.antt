@@ -2,9 +2,10 @@ use Rattle.std.proofs.Common.{◌≡◌, length, arith, sym, ap, refl, ◌∙◌
 use Rattle.std.specs.Option.{option_copied, option_map}
 use Rattle.tetra_bits.specs.declared.bits.Bits.{Bits}
 use Rattle.tetra_bursts.specs.declared.table.Train.TheVariants.{N, P}
+use Rattle.tetra_channels.specs.Channels.{half, type5_bits}
 use Rattle.tetra_settings.specs.Slots.{timeslot_of, mode_of}
-use Rattle.tetra_session.specs.Sent.{Normal, Synchronisation, Subslots, burst_of, blocks_sent, subslot_bits, whole, load_word}
-use Rattle.tetra_session.proofs.Fitting.{access_there, fits_traffic, full_no_traffic, halves_no_traffic, sync_no_traffic, subslots_no_traffic}
+use Rattle.tetra_session.specs.Sent.{Normal, Synchronisation, Subslots, burst_of, blocks_sent, subslot_bits, whole, load_of, load_word, rest_word}
+use Rattle.tetra_session.proofs.Fitting.{access_there, fits_traffic, fits_stolen, fits_both, full_no_traffic, halves_no_traffic, sync_no_traffic, subslots_no_traffic}
 use Rattle.tetra_session.proofs.Lanes.{stands_silent, stands_taken, lane_now}
 use Rattle.tetra_session.proofs.Sending.{slot_is, slot_of_sync, slot_of_subs}
 use Rattle.tetra_session.proofs.sender.Sender.slot.Goals as goal
@@ -12,12 +13,7 @@ use Rattle.tetra_session.proofs.sender.Sender.slot.Goals as goal
 pub load_word-word-requires-clause-carries : goal.load_word-word-requires-clause-carries
 load_word-word-requires-clause-carries c =
     let s = c.args.self.now in
-    rw c.mode_at-mode.ensures.mode (fits_traffic s.settings s.turn c.args.blocks.now c.requires.fits c.in-Traffic.load s.built c.in-Traffic.is).1
-
-pub load_word-word-requires-clause-built : goal.load_word-word-requires-clause-built
-load_word-word-requires-clause-built c =
-    let s = c.args.self.now in
-    rw c.mode_at-mode.ensures.mode (fits_traffic s.settings s.turn c.args.blocks.now c.requires.fits c.in-Traffic.load s.built c.in-Traffic.is).2
+    rw c.mode_at-mode.ensures.mode (fits_traffic s.settings s.turn c.args.blocks.now c.requires.fits c.in-Traffic.load c.in-Traffic.is).1
 
 pub whole-requires-in-Traffic-clause-access : goal.whole-requires-in-Traffic-clause-access
 whole-requires-in-Traffic-clause-access c = λ down.
@@ -37,8 +33,8 @@ pub returns-in-Halves-clause-slot : goal.returns-in-Halves-clause-slot
 returns-in-Halves-clause-slot c = λ settings history h.
     let s = c.args.self.now in
     let key = s.keys.colour in
-    c.normal.ensures ∙ slot_is settings s.settings history c.args.blocks.now s.turn key c.access-access.result h.same h.turn s.keyed c.access-access.ensures.bits
-    (Normal P c.encode-in-Halves.result c.encode-in-Halves-2.result) (rw (c.in-Halves.is, c.encode-in-Halves.ensures.bits, c.encode-in-Halves-2.ensures.bits) refl)
+    c.halves.ensures ∙ slot_is settings s.settings history c.args.blocks.now s.turn key c.access-access.result h.same h.turn s.keyed c.access-access.ensures.bits
+    (Normal P (type5_bits half key c.in-Halves.first) (type5_bits half key c.in-Halves.second)) (rw c.in-Halves.is refl)
 
 pub returns-in-Sync-clause-slot : goal.returns-in-Sync-clause-slot
 returns-in-Sync-clause-slot c = λ settings history h.
@@ -99,12 +95,58 @@ returns-in-Traffic-clause-stands c = λ settings history h.
     let s = c.args.self.now in
     let four : length s.lanes ≡ 4 = omega arith in
     let turn = c.clock-timeslot.ensures.timeslots in
-    let traffic = fits_traffic s.settings s.turn c.args.blocks.now c.requires.fits c.in-Traffic.load s.built c.in-Traffic.is in
+    let traffic = fits_traffic s.settings s.turn c.args.blocks.now c.requires.fits c.in-Traffic.load c.in-Traffic.is in
     let here = c.from.ensures ∙ c.clock-timeslot.ensures.timeslot in
     stands_taken settings history c.args.blocks.now s _ c.from.result c.mode_at-mode.result c.in-Traffic.load c.index-self-from.result c.load_word-word.new.lane h refl refl here
-    (omega (arith, c.from.ensures, turn.0)) (omega (arith, c.from.ensures, turn.1)) c.mode_at-mode.ensures.mode refl four traffic.0 c.in-Traffic.is c.load_word-word.ensures.stands
+    (omega (arith, c.from.ensures, turn.0)) (omega (arith, c.from.ensures, turn.1)) c.mode_at-mode.ensures.mode refl four traffic.0 (ap load_of c.in-Traffic.is) c.load_word-word.ensures.stands
 
 pub returns-in-Control-clause-stands : goal.returns-in-Control-clause-stands
 returns-in-Control-clause-stands c = λ settings history h.
     let s = c.args.self.now in
     stands_silent settings history c.args.blocks.now s _ h refl refl refl (subslots_no_traffic s.settings s.turn c.args.blocks.now c.requires.fits c.in-Control.first c.in-Control.second c.in-Control.is)
+
+pub returns-in-Stolen-clause-slot : goal.returns-in-Stolen-clause-slot
+returns-in-Stolen-clause-slot c = λ settings history h.
+    let s = c.args.self.now in
+    let key = s.keys.colour in
+    let load = c.in-Stolen.load in
+    let before = blocks_sent settings (timeslot_of settings.at (length history)) history in
+    let four : length s.lanes ≡ 4 = omega arith in
+    let turn = c.clock-timeslot.ensures.timeslots in
+    let byte : c.from-in-Stolen.result ≡ c.clock-timeslot.result.0 = c.from-in-Stolen.ensures in
+    let kept = rw (← byte) at (lane_now settings history s c.clock-timeslot.result.0 c.mode_at-mode.result c.index-self-from-in-Stolen.result h c.clock-timeslot.ensures.timeslot turn.0 turn.1 c.mode_at-mode.ensures.mode four) in
+    c.normal.ensures ∙ slot_is settings s.settings history c.args.blocks.now s.turn key c.access-access.result h.same h.turn s.keyed c.access-access.ensures.bits
+    (Normal P c.encode-first.result c.rest_word-rest.result)
+    (rw (c.in-Stolen.is, c.encode-first.ensures.bits, c.rest_word-rest.ensures.word before kept, c.mode_at-mode.ensures.mode) refl)
+
+pub returns-in-Stolen-clause-stands : goal.returns-in-Stolen-clause-stands
+returns-in-Stolen-clause-stands c = λ settings history h.
+    let s = c.args.self.now in
+    let four : length s.lanes ≡ 4 = omega arith in
+    let turn = c.clock-timeslot.ensures.timeslots in
+    let traffic = fits_stolen s.settings s.turn c.args.blocks.now c.requires.fits c.in-Stolen.first c.in-Stolen.load c.in-Stolen.is in
+    let here = c.from-in-Stolen.ensures ∙ c.clock-timeslot.ensures.timeslot in
+    stands_taken settings history c.args.blocks.now s _ c.from-in-Stolen.result c.mode_at-mode.result c.in-Stolen.load c.index-self-from-in-Stolen.result c.rest_word-rest.new.lane h refl refl here
+    (omega (arith, c.from-in-Stolen.ensures, turn.0)) (omega (arith, c.from-in-Stolen.ensures, turn.1)) c.mode_at-mode.ensures.mode refl four traffic.0 (ap load_of c.in-Stolen.is) c.rest_word-rest.ensures.stands
+
+pub rest_word-rest-requires-clause-carries : goal.rest_word-rest-requires-clause-carries
+rest_word-rest-requires-clause-carries c =
+    let s = c.args.self.now in
+    rw c.mode_at-mode.ensures.mode (fits_stolen s.settings s.turn c.args.blocks.now c.requires.fits c.in-Stolen.first c.in-Stolen.load c.in-Stolen.is).1
+
+pub returns-in-Both-clause-slot : goal.returns-in-Both-clause-slot
+returns-in-Both-clause-slot c = λ settings history h.
+    let s = c.args.self.now in
+    let key = s.keys.colour in
+    c.halves-in-Both.ensures ∙ slot_is settings s.settings history c.args.blocks.now s.turn key c.access-access.result h.same h.turn s.keyed c.access-access.ensures.bits
+    (Normal P (type5_bits half key c.in-Both.first) (type5_bits half key c.in-Both.second)) (rw c.in-Both.is refl)
+
+pub returns-in-Both-clause-stands : goal.returns-in-Both-clause-stands
+returns-in-Both-clause-stands c = λ settings history h.
+    let s = c.args.self.now in
+    let four : length s.lanes ≡ 4 = omega arith in
+    let turn = c.clock-timeslot.ensures.timeslots in
+    let traffic = fits_both s.settings s.turn c.args.blocks.now c.requires.fits c.in-Both.first c.in-Both.second c.in-Both.load c.in-Both.is in
+    let here = c.from-in-Both.ensures ∙ c.clock-timeslot.ensures.timeslot in
+    stands_taken settings history c.args.blocks.now s _ c.from-in-Both.result c.mode_at-mode.result c.in-Both.load c.index-self-from-in-Both.result c.take_load.new.lane h refl refl here
+    (omega (arith, c.from-in-Both.ensures, turn.0)) (omega (arith, c.from-in-Both.ensures, turn.1)) c.mode_at-mode.ensures.mode refl four traffic.0 (ap load_of c.in-Both.is) c.take_load.ensures

@@ -199,15 +199,14 @@ module _ (law : FieldsHaveSizes) (rows : List ℕ) (dir : Dir) (key : List Bool)
 
 pub own_records_agree : FieldsHaveSizes → OwnRecordsAgree
 unfolding slot_front slot_reading fields_heard
-own_records_agree law settings history soft valid built earlier size all letter =
+own_records_agree law settings history soft valid earlier size all =
     let t : ℕ = length history in
     let heard : Letter = letter_heard settings t soft in
-    let places : List Place = places_of settings.dir heard (mode_of settings t) in
     let block : Option (List ℤ) = block_heard settings history soft in
     let whole : IfSome block (λ values. length values ≡ 432) = block_size settings history soft in
     let within : IfSome block AllSoft = block_within (nat_abs SOFT_MAX) settings history soft earlier all in
-    let are : ArePlaces settings.dir heard places = are_places settings t soft valid built letter in
+    let are : (second_stolen : Bool) → ArePlaces settings.dir heard (places_of settings.dir heard (mode_of settings t) second_stolen) = λ second_stolen. are_places settings t soft second_stolen valid in
     agrees settings.rows (slot_front settings history soft) (nat_abs SOFT_MAX) (omega arith)
-    (formed law settings.rows.0 settings.dir _ block soft size whole within all heard places are)
-    (all_bounded law settings.rows.0 settings.dir _ block soft size whole within all heard places are)
+    (formed law settings.rows.0 settings.dir _ block soft size whole within all heard _ (are _))
+    (all_bounded law settings.rows.0 settings.dir _ block soft size whole within all heard _ (are _))
     (letter_small heard)

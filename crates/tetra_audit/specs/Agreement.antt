@@ -11,10 +11,9 @@ use Rattle.tetra_puncture.specs.Rules.{IsAccepted}
 use Rattle.tetra_puncture.specs.Spread.{spread_values}
 use Rattle.tetra_records.specs.Readings.{reading_spelling}
 use Rattle.tetra_rm.specs.declared.table.Rows.{Rows}
-use Rattle.tetra_session.specs.Built.{IsBuilt, IsBuiltLetter}
 use Rattle.tetra_session.specs.Fronts.{IsFront}
 use Rattle.tetra_session.specs.Readers.{CodedPart, reader, coded_part, field_reading}
-use Rattle.tetra_session.specs.Heard.{slot_letter, slot_front, slot_reading}
+use Rattle.tetra_session.specs.Heard.{slot_front, slot_reading}
 use Rattle.tetra_session.specs.declared.front.FrontField.{FrontField}
 use Rattle.tetra_session.specs.declared.front.Front.{Front}
 use Rattle.tetra_settings.specs.Validity.{IsValid}
@@ -79,7 +78,6 @@ own_record settings history soft = reading_spelling Audit (slot_reading settings
 -- in a slot of 510 positions, after slots of soft values, it has the length that is claimed for the slot, and agrees
 abbrev pub OwnRecordsAgree : Type 0
 OwnRecordsAgree = (settings : Settings) (history : List (List ℤ)) (soft : List ℤ)
-    → IsValid settings → IsBuilt settings → All AllSoft history → length soft ≡ 510 → AllSoft soft
-    → IsBuiltLetter (slot_letter settings (length history) soft)
+    → IsValid settings → All AllSoft history → length soft ≡ 510 → AllSoft soft
     → (length (own_record settings history soft) ≡ claim_length (slot_front settings history soft))
     × (slot_verdict settings.rows (slot_front settings history soft) (own_record settings history soft) ≡ Agrees)

@@ -1,10 +1,8 @@
 -- Slots with what is claimed for them, at the front of the input.
-use Rattle.std.proofs.Common.{◌≡◌, ℕ, ◌≤◌, List, [], ◌∷◌, ◌++◌, length, ap, sym, ◌∙◌, arith, length-append, append_assoc, append-nil, true, false, Option}
-use Rattle.std.proofs.lemmas.List.{map-append, length-map}
+use Rattle.std.proofs.Common.{◌≡◌, ℕ, ◌≤◌, List, [], ◌∷◌, ◌++◌, length, ap, sym, ◌∙◌, arith, refl, length-append, append_assoc, append-nil, Option}
+use Rattle.std.proofs.lemmas.List.{map-append}
 use Rattle.std.specs.declared.option.Option.{Option}
-use Rattle.std.specs.Io.KnownBytes.{Consumes}
 use Rattle.tetra_settings.specs.declared.types.Settings.{Settings}
-use Rattle.tetra_engine.specs.declared.status.Status.TheVariants.{NotBuilt}
 use Rattle.tetra_engine.specs.declared.refusals.Refusals.{Refusals}
 use Rattle.tetra_engine.specs.declared.intake.Intake.{Intake}
 use Rattle.tetra_engine.specs.declared.work.Stop.{Stop}
@@ -13,16 +11,14 @@ use Rattle.tetra_audit.specs.declared.verdict.SlotVerdict.TheVariants.{Agrees, K
 use Rattle.tetra_session.specs.Heard.{slot_front}
 use Rattle.tetra_session.specs.declared.front.Front.{Front}
 use Rattle.tetra_audit.specs.Fields.{claim_length}
-use Rattle.tetra_engine.specs.Framing.{is_built_slot}
 use Rattle.tetra_engine.specs.Auditing.{Claimed, auditing, slots_of, front_at, refused_by, refused_slots, verdict_at}
 use Rattle.tetra_engine.specs.Refusals.{Counts}
 use Rattle.tetra_engine.specs.Slots.{soft_values}
 use Rattle.tetra_engine.specs.Intake.{IntakeStops, HoldsSlot}
-use Rattle.tetra_engine.specs.Working.{NoneBegins, StopGives}
+use Rattle.tetra_engine.specs.Working.{StopGives}
 use Rattle.tetra_engine.proofs.Cuts.{same_front}
-use Rattle.tetra_engine.proofs.Fronts.{unbuilt_front, IsShort}
+use Rattle.tetra_engine.proofs.Fronts.{IsShort}
 use Rattle.tetra_engine.proofs.Intakes.{slot_stopped}
-use Rattle.tetra_engine.proofs.Framed.{framing_short, framing_unbuilt, framing_truncated, not_both}
 
 -- the slots so far, and one more
 pub slots_more : (before : List Claimed) (input : Claimed) → slots_of (before ++ input ∷ []) ≡ slots_of before ++ soft_values input.0 ∷ []
@@ -32,54 +28,40 @@ slots_more before input = map-append (λ i. soft_values i.0) before (input ∷ [
 slot_of_input : (x : Claimed) (slot u rest : List ℕ) → length x.0 ≡ 510 → length slot ≡ 510 → slot ++ u ≡ (x.0 ++ x.1) ++ rest → x.0 ≡ slot
 slot_of_input x slot u rest sx sy e = same_front 510 x.0 slot (x.1 ++ rest) u sx sy (sym (append_assoc x.0 x.1 rest) ∙ sym e)
 
--- a slot that is not built, for an audit
-pub unbuilt_claimed : (settings : Settings) (before : List Claimed) (slot : List ℕ) (old new : Option (List ℕ)) → length slot ≡ 510 → is_built_slot settings (length before) slot ≡ false
-    → Consumes old new slot → NoneBegins (auditing settings) before old NotBuilt
-unbuilt_claimed settings before slot old new size unbuilt came =
-    unbuilt_front (auditing settings) before slot old new
-    (λ u x rest fits e. not_both settings (length before) slot x.0 (slot_of_input x slot u rest fits.0 size e) unbuilt fits.1)
-    (λ u. framing_unbuilt settings (length before) slot u size unbuilt) (omega arith) came
-
 -- fewer bytes than a slot has
 pub short_first : (settings : Settings) (before : List Claimed) → IsShort (auditing settings) before [] 510
 short_first settings before = record {
   none = λ u few x rest fits e. absurd (omega (arith, ap length e, length-append (x.0 ++ x.1) rest, length-append x.0 x.1, fits.0));
-  stops = λ u few. framing_short settings (length before) u few;
+  stops = λ u few. refl;
 }
 
 -- what the stops of its slots say of an audit
-pub auditing_stopped : (settings : Settings) (before : List Claimed) (intake : Intake) (old new : Option (List ℕ)) (Stands : Type 0) (stop : Stop) → intake.settings ≡ settings → Stands
-    → IntakeStops intake (length (slots_of before)) old new stop → StopGives (auditing settings) before old new Stands stop
-auditing_stopped settings before intake old new Stands stop same stands stops =
-    slot_stopped (auditing settings) before settings (short_first settings before) (λ slot a b size unbuilt came. unbuilt_claimed settings before slot a b size unbuilt came)
-    intake (length (slots_of before)) old new Stands stop same (length-map before (λ i. soft_values i.0)) stands stops
+pub auditing_stopped : (settings : Settings) (before : List Claimed) (old new : Option (List ℕ)) (Stands : Type 0) (stop : Stop) → Stands
+    → IntakeStops old new stop → StopGives (auditing settings) before old new Stands stop
+auditing_stopped settings before old new Stands stop stands stops = slot_stopped (auditing settings) before (short_first settings before) old new Stands stop stands stops
 
 -- a slot behind which bytes of the record are missing
-pub short_claim : (settings : Settings) (before : List Claimed) (slot : List ℕ) (len : ℕ) → length slot ≡ 510 → is_built_slot settings (length before) slot ≡ true
+pub short_claim : (settings : Settings) (before : List Claimed) (slot : List ℕ) (len : ℕ) → length slot ≡ 510
     → len ≡ claim_length (front_at settings before slot) → IsShort (auditing settings) before slot len
-short_claim settings before slot len size built is = record {
+short_claim settings before slot len size is = record {
   none = λ u few x rest fits e.
       let same = slot_of_input x slot u rest fits.0 size e in
-      let long : length x.1 ≡ len = fits.2 ∙ ap (λ s. claim_length (front_at settings before s)) same ∙ sym is in
+      let long : length x.1 ≡ len = fits.1 ∙ ap (λ s. claim_length (front_at settings before s)) same ∙ sym is in
       absurd (omega (arith, ap length e, length-append slot u, length-append (x.0 ++ x.1) rest, length-append x.0 x.1, fits.0));
-  stops = λ u few. framing_truncated settings (length before) slot u size built;
+  stops = λ u few. refl;
 }
 
 -- a slot that was read, what a receiver takes from it, and the length of its record
 pub record SlotAt (settings : Settings) (before : List Claimed) (slot : List ℕ) (front : Front) (len : ℕ) : Type 0 where
   pub size : length slot ≡ 510
-  pub built : is_built_slot settings (length before) slot ≡ true
   pub front_is : front ≡ front_at settings before slot
   pub len_is : len ≡ claim_length (front_at settings before slot)
 
-pub slot_at : (settings : Settings) (before : List Claimed) (intake : Intake) (front : Front) (len : ℕ) → intake.settings ≡ settings → HoldsSlot intake (length (slots_of before))
+pub slot_at : (settings : Settings) (before : List Claimed) (intake : Intake) (front : Front) (len : ℕ) → intake.settings ≡ settings → HoldsSlot intake
     → front ≡ slot_front intake.settings (slots_of before) intake.soft → len ≡ claim_length front → SlotAt settings before intake.bytes front len
 slot_at settings before intake front len same holds heard long =
-    let n : length (slots_of before) ≡ length before = length-map before (λ i. soft_values i.0) in
     let is : front ≡ front_at settings before intake.bytes = heard ∙ ap (λ s. slot_front s (slots_of before) intake.soft) same ∙ ap (slot_front settings (slots_of before)) holds.values in
-    let here : is_built_slot settings (length before) intake.bytes ≡ is_built_slot intake.settings (length (slots_of before)) intake.bytes =
-    ap (λ s. is_built_slot s (length before) intake.bytes) (sym same) ∙ ap (λ k. is_built_slot intake.settings k intake.bytes) (sym n) in
-    record { size = holds.size; built = here ∙ holds.built; front_is = is; len_is = long ∙ ap claim_length is }
+    record { size = holds.size; front_is = is; len_is = long ∙ ap claim_length is }
 
 -- one slot more that is refused or not
 pub refused_more : (settings : Settings) (before inputs : List Claimed) (input : Claimed)

@@ -3,7 +3,6 @@ use Prim.Native.Nat.{zero, suc}
 use Rattle.std.proofs.Common.{◌≡◌, ℕ, ◌+◌, ◌<◌, ◌≤◌, List, [], ◌∷◌, ◌++◌, length, take, map, get_or, ℤ, arith, refl, sym, ap, subst, ◌∙◌}
 use Rattle.std.proofs.lemmas.List.{append_assoc, append-nil, get_or-map, get_or-take, length-map, length-take, length-take-le, map_more, take_more}
 use Rattle.std.specs.Bool.{⊤}
-use Rattle.tetra_session.specs.Built.{IsBuilt}
 use Rattle.tetra_session.specs.Data.{IsKept as IsUndamaged, DataRead, DataArrives}
 use Rattle.tetra_session.specs.Heard.{letter_heard, slot_reading}
 use Rattle.tetra_session.specs.Sent.{slot_written, KeepsSlot}
@@ -12,9 +11,10 @@ use Rattle.tetra_settings.specs.Blocks.{Fits}
 use Rattle.tetra_settings.specs.Readings.{traffic_name}
 use Rattle.tetra_settings.specs.Slots.{timeslot_of, mode_of, use_of}
 use Rattle.tetra_settings.specs.declared.blocks.SlotBlocks.{SlotBlocks}
+use Rattle.tetra_settings.specs.declared.readings.FieldName.{FieldName}
 use Rattle.tetra_settings.specs.declared.readings.FieldName.TheVariants.{Whole}
 use Rattle.tetra_settings.specs.declared.readings.SlotReading.{SlotReading}
-use Rattle.tetra_settings.specs.declared.slots.Letter.TheVariants.{T}
+use Rattle.tetra_settings.specs.declared.slots.Letter.{Letter}
 use Rattle.tetra_settings.specs.declared.slots.SlotUse.TheVariants.{Traffic}
 use Rattle.tetra_settings.specs.declared.types.Settings.{Settings}
 use Rattle.tetra_engine.specs.Arriving.{IsKept, AreDataRead, DataIsRead, slots_for}
@@ -69,7 +69,7 @@ take_of_take (x ∷ xs) t zero low = refl
 take_of_take (x ∷ xs) zero (suc u) low = absurd (omega (arith, low))
 take_of_take (x ∷ xs) (suc t) (suc u) low = ap (λ rest. x ∷ rest) (take_of_take xs t u (omega (arith, low)))
 
-module _ (settings : Settings) (arrive : DataArrives) (built : IsBuilt settings) (blocks : List SlotBlocks) (slots : List (List ℕ)) (same : length slots ≡ length blocks) (each : AreInputs (encoding settings) [] blocks) where
+module _ (settings : Settings) (arrive : DataArrives) (blocks : List SlotBlocks) (slots : List (List ℕ)) (same : length slots ≡ length blocks) (each : AreInputs (encoding settings) [] blocks) where
   -- slot u of those up to slot t
   undamaged : (t u : ℕ) → t < length slots → u < t + 1 → ((other : SlotBlocks) (none : List ℕ) → IsKept settings (take u blocks) (get_or blocks u other) (get_or slots u none))
       → IsUndamaged settings (take (t + 1) blocks) (map soft_values (take (t + 1) slots)) u
@@ -84,8 +84,7 @@ module _ (settings : Settings) (arrive : DataArrives) (built : IsBuilt settings)
       let heard : (silent : List ℤ) → soft_values (get_or slots u []) ≡ get_or (map soft_values (take (t + 1) slots)) u silent =
       λ silent. ap soft_values (sym (get_or-take (t + 1) slots u [] within)) ∙ sym (get_or-map soft_values (take (t + 1) slots) u [] silent many) in
       record {
-        fits = λ other. subst (λ n. Fits settings n (get_or (take (t + 1) blocks) u other)) long (input other).0;
-        built = λ other. (input other).1;
+        fits = λ other. subst (λ n. Fits settings n (get_or (take (t + 1) blocks) u other)) long (input other);
         kept = λ other silent.
             subst (λ soft. KeepsSlot settings (take u (take (t + 1) blocks)) (get_or (take (t + 1) blocks) u other) soft) (heard silent)
             (subst (λ sent. KeepsSlot settings sent (get_or (take (t + 1) blocks) u other) (soft_values (get_or slots u []))) (sym front)
@@ -93,34 +92,37 @@ module _ (settings : Settings) (arrive : DataArrives) (built : IsBuilt settings)
       }
 
   -- what the session reads of slot t
-  data_read : (t : ℕ) (none : List ℕ) → t < length slots → use_of settings t ≡ Traffic → 1 ≤ depth (mode_of settings t) → letter_heard settings t (soft_values (get_or slots t none)) ≡ T
-      → DataRead settings (timeslot_of settings.at t) (take (t + 1) blocks) (map soft_values (take (t + 1) slots)) (traffic_name (mode_of settings t) Whole)
-      (slot_reading settings (map soft_values (take t slots)) (soft_values (get_or slots t none)))
-  data_read t none below traffic deep letter =
+  data_read : (t : ℕ) (none : List ℕ) → t < length slots → use_of settings t ≡ Traffic → 1 ≤ depth (mode_of settings t)
+      → DataRead settings (timeslot_of settings.at t) (take (t + 1) blocks) (map soft_values (take (t + 1) slots)) (letter_heard settings t (soft_values (get_or slots t none)))
+      (traffic_name (mode_of settings t) Whole) (slot_reading settings (map soft_values (take t slots)) (soft_values (get_or slots t none)))
+  data_read t none below traffic deep =
       let here : t < length blocks = omega (arith, below, same) in
       let x : SlotBlocks = some_entry blocks t here in
       let soft : List ℤ = soft_values (get_or slots t none) in
       let earlier : List (List ℤ) = map soft_values (take t slots) in
       let long : length (take t blocks) ≡ t = length-take-le t blocks (omega (arith, here)) in
       let heard : length earlier ≡ length (take t blocks) = length-map (take t slots) soft_values ∙ length-take-le t slots (omega (arith, below)) ∙ sym long in
-      let read : DataRead settings (timeslot_of settings.at t) (take t blocks ++ get_or blocks t x ∷ []) (earlier ++ soft ∷ []) (traffic_name (mode_of settings t) Whole) (slot_reading settings earlier soft) =
-      subst (λ n. use_of settings n ≡ Traffic → 1 ≤ depth (mode_of settings n) → letter_heard settings n soft ≡ T
-      → DataRead settings (timeslot_of settings.at n) (take t blocks ++ get_or blocks t x ∷ []) (earlier ++ soft ∷ []) (traffic_name (mode_of settings n) Whole) (slot_reading settings earlier soft)) long
-      (arrive settings (take t blocks) (get_or blocks t x) earlier soft built heard) traffic deep letter in
-      subst (λ received. DataRead settings (timeslot_of settings.at t) (take (t + 1) blocks) received (traffic_name (mode_of settings t) Whole) (slot_reading settings earlier soft)) (sym (map_more soft_values slots t none below))
-      (subst (λ sent. DataRead settings (timeslot_of settings.at t) sent (earlier ++ soft ∷ []) (traffic_name (mode_of settings t) Whole) (slot_reading settings earlier soft)) (sym (take_more blocks t x here)) read)
+      let letter : Letter = letter_heard settings t soft in
+      let name : FieldName = traffic_name (mode_of settings t) Whole in
+      let reading : SlotReading = slot_reading settings earlier soft in
+      let read : DataRead settings (timeslot_of settings.at t) (take t blocks ++ get_or blocks t x ∷ []) (earlier ++ soft ∷ []) letter name reading =
+      subst (λ n. use_of settings n ≡ Traffic → 1 ≤ depth (mode_of settings n)
+      → DataRead settings (timeslot_of settings.at n) (take t blocks ++ get_or blocks t x ∷ []) (earlier ++ soft ∷ []) (letter_heard settings n soft) (traffic_name (mode_of settings n) Whole) reading) long
+      (arrive settings (take t blocks) (get_or blocks t x) earlier soft heard) traffic deep in
+      subst (λ received. DataRead settings (timeslot_of settings.at t) (take (t + 1) blocks) received letter name reading) (sym (map_more soft_values slots t none below))
+      (subst (λ sent. DataRead settings (timeslot_of settings.at t) sent (earlier ++ soft ∷ []) letter name reading) (sym (take_more blocks t x here)) read)
 
   -- the same of the reading with number t
   pub over_slots : AreDataRead (IsKept settings) settings blocks slots (readings_of settings [] slots)
-  unfolding mode_of
-  over_slots t none other below traffic deep letter =
+  over_slots t none other below traffic deep =
       let many : length (take (t + 1) blocks) ≡ t + 1 = length-take-le (t + 1) blocks (omega (arith, below, same)) in
-      let read = data_read t none below traffic deep letter in
+      let read = data_read t none below traffic deep in
       let is : slot_reading settings (map soft_values (take t slots)) (soft_values (get_or slots t none)) ≡ get_or (readings_of settings [] slots) t other = sym (reading_at settings slots [] t none other below) in
-      subst (DataIsRead (IsKept settings) settings blocks slots t) is
+      subst (DataIsRead _ settings _ _ _ _) is
       record {
         early = read.early;
-        complete = λ long last. read.complete long (λ u within counted near. undamaged t u below (omega (arith, within, many)) (last u within counted near));
+        complete = λ long last whole. read.complete long (λ u within counted near. undamaged t u below (omega (arith, within, many)) (last u within counted near)) whole;
+        stolen = λ long last. read.stolen long (λ u within counted near. undamaged t u below (omega (arith, within, many)) (last u within counted near));
       }
 
 -- of slots as they are written all are undamaged
@@ -130,9 +132,12 @@ module _ (settings : Settings) (kept : (history : List SlotBlocks) (blocks : Slo
 
   pub all_over_slots : (readings : List SlotReading) → AreDataRead (IsKept settings) settings blocks (slots_for settings [] blocks) readings
       → AreDataRead (λ before blocks slot. ⊤) settings blocks (slots_for settings [] blocks) readings
-  all_over_slots readings read t none other below traffic deep letter =
-      let own = read t none other below traffic deep letter in
+  all_over_slots readings read t none other below traffic deep =
+      let own = read t none other below traffic deep in
+      let all : (u : ℕ) → u < length (take (t + 1) blocks) → (entry : SlotBlocks) (empty : List ℕ) → IsKept settings (take u blocks) (get_or blocks u entry) (get_or (slots_for settings [] blocks) u empty) =
+      λ u within entry empty. here u entry empty (omega (arith, within, length-take (t + 1) blocks)) in
       record {
         early = own.early;
-        complete = λ long last. own.complete long (λ u within counted near entry empty. here u entry empty (omega (arith, within, length-take (t + 1) blocks)));
+        complete = λ long last whole. own.complete long (λ u within counted near. all u within) whole;
+        stolen = λ long last. own.stolen long (λ u within counted near. all u within);
       }

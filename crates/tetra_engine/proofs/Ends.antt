@@ -1,15 +1,12 @@
 -- There is one end, over any shape that is unambiguous and decided.
-use Rattle.std.proofs.Common.{◌≡◌, ◌⊎◌, ℕ, ◌==◌, List, [], ◌∷◌, ◌++◌, length, refl, ap, sym, ◌∙◌, inl, inr, subst, Bool, true, false, MatchBool}
+use Rattle.std.proofs.Common.{◌≡◌, ℕ, ◌==◌, List, [], ◌∷◌, length, ap, sym, ◌∙◌, subst, Bool, true, false, MatchBool}
 use Rattle.tetra_settings.specs.declared.types.Settings.{Settings}
-use Rattle.tetra_settings.specs.declared.blocks.SlotBlocks.{SlotBlocks}
-use Rattle.tetra_settings.specs.Blocks.{Fits}
 use Rattle.tetra_engine.specs.declared.status.End.{End}
 use Rattle.tetra_engine.specs.declared.status.Status.{Status}
 use Rattle.tetra_engine.specs.declared.status.Status.TheVariants.{Done, Refused, Words, TooLong, Input, Read, Write, NotBuilt}
 use Rattle.tetra_engine.specs.Shapes.{Shape, IsUnambiguous, IsDecided, outputs}
 use Rattle.tetra_engine.specs.Outcomes.{Closes, OneEnd}
-use Rattle.tetra_records.specs.Records.{why as record_why, NoneBegins}
-use Rattle.tetra_records.specs.Spelling.{spelling}
+use Rattle.tetra_records.specs.Records.{why as record_why}
 use Rattle.tetra_engine.specs.Encoding.{encoding, EncodingStops}
 use Rattle.tetra_engine.proofs.Cuts.{one_cut}
 
@@ -36,35 +33,16 @@ one_end {X} shape one decided max bytes end other written others a b =
     let same = same_end end other (one_status shape decided max a.xs b.rest end.status other.status here there) (a.slots ∙ ap (λ xs. length xs) cut.0 ∙ sym b.slots) in
     (same, sym a.output ∙ ap (outputs shape []) cut.0 ∙ b.output)
 
--- bytes begin with the record of blocks that fit
-pub BeginsWithBlocks : Settings → ℕ → List ℕ → Type 0
-BeginsWithBlocks settings n bytes = (blocks : SlotBlocks) × (rest : List ℕ) × Fits settings n blocks × (bytes ≡ spelling blocks ++ rest)
-
--- the two ways in which encoding stops
-pub two_ways : (settings : Settings) (n : ℕ) (bytes : List ℕ) (status : Status) → EncodingStops settings n bytes status
-    → (NoneBegins settings n bytes × (status ≡ Input n (record_why settings n bytes))) ⊎ (BeginsWithBlocks settings n bytes × (status ≡ NotBuilt))
-unfolding BeginsWithBlocks
-two_ways settings n bytes Done stops = absurd stops
-two_ways settings n bytes (Refused s c) stops = absurd stops
-two_ways settings n bytes (Words i w) stops = absurd stops
-two_ways settings n bytes (Input slot why) stops = inl (stops.1, ap (λ m. Input m why) stops.0 ∙ ap (Input n) (sym stops.2))
-two_ways settings n bytes Read stops = absurd stops
-two_ways settings n bytes Write stops = absurd stops
-two_ways settings n bytes TooLong stops = absurd stops
-two_ways settings n bytes NotBuilt stops = inr (stops, refl)
-
-not_both_ways : (settings : Settings) (n : ℕ) (bytes : List ℕ) → NoneBegins settings n bytes → BeginsWithBlocks settings n bytes → ⊥
-unfolding BeginsWithBlocks NoneBegins
-not_both_ways settings n bytes none (blocks, rest, fits, is) = none blocks rest fits is
-
-decide : (settings : Settings) (n : ℕ) (bytes : List ℕ) (s t : Status)
-    → (NoneBegins settings n bytes × (s ≡ Input n (record_why settings n bytes))) ⊎ (BeginsWithBlocks settings n bytes × (s ≡ NotBuilt))
-    → (NoneBegins settings n bytes × (t ≡ Input n (record_why settings n bytes))) ⊎ (BeginsWithBlocks settings n bytes × (t ≡ NotBuilt)) → s ≡ t
-decide settings n bytes s t (inl a) (inl b) = a.1 ∙ sym b.1
-decide settings n bytes s t (inl a) (inr b) = absurd (not_both_ways settings n bytes a.0 b.0)
-decide settings n bytes s t (inr a) (inl b) = absurd (not_both_ways settings n bytes b.0 a.0)
-decide settings n bytes s t (inr a) (inr b) = a.1 ∙ sym b.1
+-- the one way in which encoding stops
+pub one_way : (settings : Settings) (n : ℕ) (bytes : List ℕ) (status : Status) → EncodingStops settings n bytes status → status ≡ Input n (record_why settings n bytes)
+one_way settings n bytes Done stops = absurd stops
+one_way settings n bytes (Refused s c) stops = absurd stops
+one_way settings n bytes (Words i w) stops = absurd stops
+one_way settings n bytes (Input slot why) stops = ap (λ m. Input m why) stops.0 ∙ ap (Input n) (sym stops.2)
+one_way settings n bytes Read stops = absurd stops
+one_way settings n bytes Write stops = absurd stops
+one_way settings n bytes TooLong stops = absurd stops
+one_way settings n bytes NotBuilt stops = absurd stops
 
 pub encoding_decided : (settings : Settings) → IsDecided (encoding settings)
-encoding_decided settings before bytes s t a b =
-    decide settings (length before) bytes s t (two_ways settings (length before) bytes s a) (two_ways settings (length before) bytes t b)
+encoding_decided settings before bytes s t a b = one_way settings (length before) bytes s a ∙ sym (one_way settings (length before) bytes t b)

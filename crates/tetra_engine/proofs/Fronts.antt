@@ -5,8 +5,8 @@ use Rattle.std.specs.Io.KnownBytes.{Consumes}
 use Rattle.std.proofs.lemmas.List.{length-take}
 use Rattle.tetra_io.specs.Filling.{Fills, TakesFewer}
 use Rattle.tetra_io.specs.declared.filling.Filled.TheVariants.{Ended}
-use Rattle.tetra_io.specs.lemmas.Told.{Went-behind, AreTold-some, AreTold-behind, AreTold-all}
-use Rattle.tetra_engine.specs.declared.status.Status.TheVariants.{Input, NotBuilt}
+use Rattle.tetra_io.specs.lemmas.Told.{Went-behind, AreTold-behind, AreTold-all}
+use Rattle.tetra_engine.specs.declared.status.Status.TheVariants.{Input}
 use Rattle.tetra_records.specs.declared.faults.RecordFault.TheVariants.{Truncated}
 use Rattle.tetra_engine.specs.Shapes.{Shape, NoInput}
 use Rattle.tetra_engine.specs.Working.{NoneBegins, TakesPart}
@@ -31,11 +31,3 @@ pub fault_behind : {X : Type 0} (shape : Shape X) (before : List X) (front : Lis
     → Consumes old mid front → TakesFewer mid new more → TakesPart shape before old new
 fault_behind shape before front more old mid new short came (bs, few, went) =
     (front ++ bs, Went-behind old mid new front bs came went, inr (short.none bs few, short.stops bs few))
-
--- what came begins no input that is built
-pub unbuilt_front : {X : Type 0} (shape : Shape X) (before : List X) (front : List ℕ) (old new : Option (List ℕ))
-    → ((u : List ℕ) → NoInput shape before (front ++ u)) → ((u : List ℕ) → shape.Stops before (front ++ u) NotBuilt) → 0 < length front
-    → Consumes old new front → NoneBegins shape before old NotBuilt
-unbuilt_front shape before front old new none stops some came =
-    let (r, told) = AreTold-some new in
-    (front ++ r, AreTold-behind old new front r came told, (omega (arith, length-append front r), none r, stops r))

@@ -7,7 +7,7 @@ use Rattle.tetra_records.specs.declared.faults.RecordFault.TheVariants.{UnknownK
 use Rattle.tetra_engine.specs.declared.status.Status.{Status}
 use Rattle.tetra_engine.specs.declared.status.Status.TheVariants.{Done, Refused, Words, TooLong, Input, Read, Write, NotBuilt}
 use Rattle.tetra_engine.specs.declared.work.Stop.{Stop}
-use Rattle.tetra_engine.specs.declared.work.Stop.TheVariants.{End as EndStop, Bad, NotBuilt as NotBuiltStop, More, Fault}
+use Rattle.tetra_engine.specs.declared.work.Stop.TheVariants.{End as EndStop, Bad, More, Fault}
 use Rattle.tetra_engine.specs.Outcomes.{IsEnd, EndsMet}
 use Rattle.tetra_engine.specs.Working.{ends_by_stop, end_by}
 
@@ -26,7 +26,6 @@ met_at_end NotBuilt before now quiet met = absurd quiet
 pub met_by_stop : (stop : Stop) (last : Status) (slots before now : ℕ) → now ≡ ends_by_stop stop before → IsEnd last → EndsMet (end_by stop last slots).status before now
 met_by_stop EndStop last slots before now met quiet = met_at_end last before now quiet met
 met_by_stop (Bad why) last slots before now met quiet = met
-met_by_stop NotBuiltStop last slots before now met quiet = met
 met_by_stop More last slots before now met quiet = met
 met_by_stop Fault last slots before now met quiet = met
 

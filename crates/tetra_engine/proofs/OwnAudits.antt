@@ -1,13 +1,12 @@
 -- An audit of what decoding wrote with certificates.
 use Prim.Native.Nat.{suc}
-use Rattle.std.proofs.Common.{◌≡◌, ℕ, ◌+◌, List, [], ◌∷◌, ◌++◌, length, map, IsTrue, ℤ, arith, refl, sym, ap, subst, ◌∙◌, length-append, append-nil}
+use Rattle.std.proofs.Common.{◌≡◌, ℕ, ◌+◌, List, [], ◌∷◌, ◌++◌, length, map, ℤ, arith, refl, sym, ap, ◌∙◌, length-append, append-nil}
 use Rattle.std.proofs.lemmas.List.{length-map}
 use Rattle.std.specs.List.{flat_map, range_with_len}
 use Rattle.tetra_bits.specs.Soft.{soft_value}
 use Rattle.tetra_records.specs.Readings.{reading_spelling}
 use Rattle.tetra_settings.specs.Validity.{IsValid}
-use Rattle.tetra_session.specs.Built.{is_built_letter, IsBuilt, IsBuiltLetter}
-use Rattle.tetra_session.specs.Heard.{letter_heard, slot_letter, block_heard, slot_front, slot_reading}
+use Rattle.tetra_session.specs.Heard.{letter_heard, block_heard, slot_front, slot_reading}
 use Rattle.tetra_settings.specs.Slots.{mode_of, use_of}
 use Rattle.tetra_settings.specs.declared.types.Form.{Form}
 use Rattle.tetra_settings.specs.declared.types.Form.TheVariants.{Audit}
@@ -19,7 +18,6 @@ use Rattle.tetra_audit.specs.declared.verdict.SlotVerdict.TheVariants.{Agrees}
 use Rattle.tetra_engine.specs.Agreeing.{to_read_back, DecodedAgrees}
 use Rattle.tetra_engine.specs.Auditing.{Claimed, slots_of, front_at, verdict_at, refused_by, refused_slots, audit_status, auditing}
 use Rattle.tetra_engine.specs.Decoding.{framed, decoded, decoding}
-use Rattle.tetra_engine.specs.Framing.{is_built_slot}
 use Rattle.tetra_engine.specs.Shapes.{AreInputs, spellings, outputs}
 use Rattle.tetra_engine.specs.Slots.{soft_values}
 use Rattle.tetra_engine.specs.Verdicts.{verdict_line}
@@ -29,10 +27,6 @@ use Rattle.tetra_engine.proofs.SoftSlots.{soft_slot, soft_slots}
 
 module _ (settings : Settings) (form : Form) (max : ℕ) where
   -- neither form nor number of slots has a part in what is read
-  pub letter_same : (t : ℕ) (soft : List ℤ) → slot_letter (to_read_back settings form max) t soft ≡ slot_letter settings t soft
-  unfolding letter_heard use_of mode_of
-  letter_same t soft = refl
-
   front_same : (history : List (List ℤ)) (soft : List ℤ) → slot_front (to_read_back settings form max) history soft ≡ slot_front settings history soft
   unfolding slot_front block_heard letter_heard use_of mode_of
   front_same history soft = refl
@@ -62,36 +56,28 @@ module _ (settings : Settings) (form : Form) (max : ℕ) where
     many = omega (arith, length-append claimed (own before slot ∷ []), length-append before (slot ∷ []), behind.many);
   }
 
-  module _ (agree : OwnRecordsAgree) (valid : IsValid settings) (settings_built : IsBuilt settings) where
-    module _ (before : List (List ℕ)) (claimed : List Claimed) (slot : List ℕ) (behind : Behind before claimed) (size : length slot ≡ 510) (built : IsTrue (is_built_slot settings (length before) slot)) where
+  module _ (agree : OwnRecordsAgree) (valid : IsValid settings) where
+    module _ (before : List (List ℕ)) (claimed : List Claimed) (slot : List ℕ) (behind : Behind before claimed) (size : length slot ≡ 510) where
       front_is : front_at (to_read_back settings form max) claimed slot ≡ slot_front settings (map soft_values before) (soft_values slot)
       front_is = front_same (slots_of claimed) (soft_values slot) ∙ ap (λ history. slot_front settings history (soft_values slot)) behind.slots
 
-      letter_built : IsBuiltLetter (slot_letter settings (length (map soft_values before)) (soft_values slot))
-      letter_built = subst (λ n. IsBuiltLetter (slot_letter settings n (soft_values slot))) (sym (length-map before soft_values)) built
-
-      still_built : IsTrue (is_built_slot (to_read_back settings form max) (length claimed) slot)
-      still_built =
-          let at_claimed : IsTrue (is_built_slot settings (length claimed) slot) = subst (λ n. IsTrue (is_built_slot settings n slot)) (sym behind.many) built in
-          subst (λ letter. IsTrue (is_built_letter letter)) (sym (letter_same (length claimed) (soft_values slot))) at_claimed
-
       long : length (own_record settings (map soft_values before) (soft_values slot)) ≡ claim_length (front_at (to_read_back settings form max) claimed slot)
       long =
-          (agree settings (map soft_values before) (soft_values slot) valid settings_built (soft_slots before) (length-map slot soft_value ∙ size) (soft_slot slot) letter_built).0
+          (agree settings (map soft_values before) (soft_values slot) valid (soft_slots before) (length-map slot soft_value ∙ size) (soft_slot slot)).0
           ∙ ap claim_length (sym front_is)
 
       agrees : verdict_at (to_read_back settings form max) claimed (own before slot) ≡ Agrees
       unfolding own
       agrees =
           ap (λ front. slot_verdict settings.rows front (own_record settings (map soft_values before) (soft_values slot))) front_is
-          ∙ (agree settings (map soft_values before) (soft_values slot) valid settings_built (soft_slots before) (length-map slot soft_value ∙ size) (soft_slot slot) letter_built).1
+          ∙ (agree settings (map soft_values before) (soft_values slot) valid (soft_slots before) (length-map slot soft_value ∙ size) (soft_slot slot)).1
 
     inputs : (slots before : List (List ℕ)) (claimed : List Claimed) → Behind before claimed → AreInputs (decoding settings) before slots
         → AreInputs (auditing (to_read_back settings form max)) claimed (owns before slots)
     unfolding own owns
     inputs [] before claimed behind each = tt
     inputs (slot ∷ slots) before claimed behind each = (
-      (each.0.0, still_built before claimed slot behind each.0.0 each.0.1, long before claimed slot behind each.0.0 each.0.1),
+      (each.0, long before claimed slot behind each.0),
       inputs slots (before ++ slot ∷ []) (claimed ++ own before slot ∷ []) (behind_more before claimed slot behind) each.1,
     )
 
@@ -100,7 +86,7 @@ module _ (settings : Settings) (form : Form) (max : ℕ) where
     unfolding owns
     none_refused [] before claimed behind each = refl
     none_refused (slot ∷ slots) before claimed behind each =
-        ap (λ verdict. refused_by (length claimed) verdict ++ refused_slots (to_read_back settings form max) (claimed ++ own before slot ∷ []) (owns (before ++ slot ∷ []) slots)) (agrees before claimed slot behind each.0.0 each.0.1)
+        ap (λ verdict. refused_by (length claimed) verdict ++ refused_slots (to_read_back settings form max) (claimed ++ own before slot ∷ []) (owns (before ++ slot ∷ []) slots)) (agrees before claimed slot behind each.0)
         ∙ none_refused slots (before ++ slot ∷ []) (claimed ++ own before slot ∷ []) (behind_more before claimed slot behind) each.1
 
     lines : (slots before : List (List ℕ)) (claimed : List Claimed) → Behind before claimed → AreInputs (decoding settings) before slots
@@ -109,7 +95,7 @@ module _ (settings : Settings) (form : Form) (max : ℕ) where
     lines [] before claimed behind each = refl
     lines (slot ∷ slots) before claimed behind each =
         let more : length (claimed ++ own before slot ∷ []) ≡ length claimed + 1 = length-append claimed (own before slot ∷ []) in
-        ap (λ verdict. verdict_line (length claimed) verdict ++ outputs (auditing (to_read_back settings form max)) (claimed ++ own before slot ∷ []) (owns (before ++ slot ∷ []) slots)) (agrees before claimed slot behind each.0.0 each.0.1)
+        ap (λ verdict. verdict_line (length claimed) verdict ++ outputs (auditing (to_read_back settings form max)) (claimed ++ own before slot ∷ []) (owns (before ++ slot ∷ []) slots)) (agrees before claimed slot behind each.0)
         ∙ (ap (λ rest. verdict_line (length claimed) Agrees ++ rest) (lines slots (before ++ slot ∷ []) (claimed ++ own before slot ∷ []) (behind_more before claimed slot behind) each.1)
         ∙ ap (λ n. verdict_line (length claimed) Agrees ++ flat_map (λ s. verdict_line s Agrees) (range_with_len n (length slots))) more)
 
@@ -127,7 +113,7 @@ no_more : (x : Claimed) (rest : List ℕ) → length x.0 ≡ 510 → [] ≡ (x.0
 no_more x rest size e = absurd (omega (arith, ap length e, length-append (x.0 ++ x.1) rest, length-append x.0 x.1))
 
 pub decoded_agrees : OwnRecordsAgree → DecodedAgrees
-decoded_agrees agree settings form max bytes written end valid built audit few ran =
+decoded_agrees agree settings form max bytes written end valid audit few ran =
     let slots : List (List ℕ) = ran.xs in
     let start : Behind settings form max [] [] = record { slots = refl; many = refl } in
     let many : length (owns settings form max [] slots) ≡ length slots = length-owns settings form max [] slots in
@@ -136,11 +122,11 @@ decoded_agrees agree settings form max bytes written end valid built audit few r
       rest = [];
       cut = record {
         whole = sym ran.output ∙ (written_is settings form max audit slots [] ∙ sym (append-nil (spellings (auditing (to_read_back settings form max)) (owns settings form max [] slots))));
-        each = inputs settings form max agree valid built slots [] [] start ran.cut.each;
+        each = inputs settings form max agree valid slots [] [] start ran.cut.each;
         few = omega (arith, many, ran.slots);
         longest = λ below x rest fits e. no_more x rest fits.0 e;
       };
-      closes = ap audit_status (sym (none_refused settings form max agree valid built slots [] [] start ran.cut.each));
+      closes = ap audit_status (sym (none_refused settings form max agree valid slots [] [] start ran.cut.each));
       slots = ran.slots ∙ sym many;
-      output = lines settings form max agree valid built slots [] [] start ran.cut.each ∙ ap (λ n. flat_map (λ slot. verdict_line slot Agrees) (range_with_len 0 n)) (sym ran.slots);
+      output = lines settings form max agree valid slots [] [] start ran.cut.each ∙ ap (λ n. flat_map (λ slot. verdict_line slot Agrees) (range_with_len 0 n)) (sym ran.slots);
     }

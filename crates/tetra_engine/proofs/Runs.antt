@@ -15,7 +15,7 @@ use Rattle.tetra_records.specs.declared.faults.RecordFault.TheVariants.{Truncate
 use Rattle.tetra_engine.specs.Shapes.{Shape, AreInputs, spellings, outputs, NoInput}
 use Rattle.tetra_engine.specs.Outcomes.{EndsBy, TookBefore, IsEnd, Outcome, IsPart, ReadFront, WriteFront, Came, Grows, IsFrontOfNext, Over}
 use Rattle.tetra_engine.specs.declared.work.Stop.{Stop}
-use Rattle.tetra_engine.specs.declared.work.Stop.TheVariants.{End as EndStop, Bad, NotBuilt as NotBuiltStop, More, Fault}
+use Rattle.tetra_engine.specs.declared.work.Stop.TheVariants.{End as EndStop, Bad, More, Fault}
 use Rattle.tetra_engine.specs.Working.{Ran, NoneBegins, StopGives, PastGives, end_by}
 
 -- one input more
@@ -274,7 +274,6 @@ pub stopped : {X : Type 0} (shape : Shape X) (max n : ℕ) (xs : List X) (stop :
 stopped shape max n xs EndStop last r0 r1 r2 t0 t1 Stands some ran below gives is quiet = done_front shape max n xs last r0 r1 r2 t0 t1 some ran gives.1 (is gives.0) quiet
 stopped shape max n xs (Bad why) last r0 r1 r2 t0 t1 Stands some ran below gives is quiet =
     none_begins shape max n xs (Input n why) r0 r1 t0 t1 ran below (subst (λ k. NoneBegins shape xs r1 (Input k why)) (sym ran.slots_is) gives)
-stopped shape max n xs NotBuiltStop last r0 r1 r2 t0 t1 Stands some ran below gives is quiet = none_begins shape max n xs NotBuilt r0 r1 t0 t1 ran below gives
 stopped shape max n xs More last r0 r1 r2 t0 t1 Stands some ran below gives is quiet = absurd gives
 stopped shape max n xs Fault last r0 r1 r2 t0 t1 Stands some ran below (p, went, why) is quiet =
     read_front shape max n xs r0 r1 r2 t0 t1 p some ran went why (ended_part shape max xs p (omega (arith, ran.slots_is)) why)
@@ -286,6 +285,5 @@ pub passed : {X : Type 0} (shape : Shape X) (max n : ℕ) (xs : List X) (stop : 
     → EndsBy (end_by stop last n).status shape max r0 r2 (TookBefore (end_by stop last n).status t0 t1) (end_by stop last n)
 passed shape max n xs EndStop last r0 r1 r2 t0 t1 some ran all gives is quiet = done_front shape max n xs last r0 r1 r2 t0 t1 some ran gives.0 is quiet
 passed shape max n xs (Bad why) last r0 r1 r2 t0 t1 some ran all gives is quiet = absurd gives
-passed shape max n xs NotBuiltStop last r0 r1 r2 t0 t1 some ran all gives is quiet = absurd gives
 passed shape max n xs More last r0 r1 r2 t0 t1 some ran all gives is quiet = too_long shape max n xs r0 r1 r2 t0 t1 gives.0 ran all gives.2 gives.1
 passed shape max n xs Fault last r0 r1 r2 t0 t1 some ran all gives is quiet = past_fault shape max n xs r0 r1 r2 t0 t1 some ran gives

@@ -1,10 +1,11 @@
 -- What an end says of its words and of the number of its slots, over any source.
-use Rattle.std.proofs.Common.{◌≡◌, ◌⊎◌, ℕ, ◌+◌, ◌<◌, ◌≤◌, ◌==◌, List, [], ◌∷◌, ◌++◌, length, refl, sym, inl, inr, subst, arith, length-append, Option, Bool, true, false, MatchBool, nat_lt, Ok, IsTrue, take, if◌then◌else◌}
+use Rattle.std.proofs.Common.{◌≡◌, ◌⊎◌, ℕ, ◌+◌, ◌<◌, ◌≤◌, ◌==◌, List, [], ◌∷◌, ◌++◌, length, refl, sym, inl, inr, subst, arith, length-append, Option, Bool, true, false, MatchBool, Ok, IsTrue}
 use Rattle.std.proofs.lemmas.Bool.{eqb-true}
 use Rattle.tetra_settings.specs.declared.types.Command.{Command}
 use Rattle.tetra_settings.specs.declared.types.Command.TheVariants.{Encode, Decode, Audit, Gen, Trial}
 use Rattle.tetra_settings.specs.declared.types.Settings.{Settings}
 use Rattle.tetra_settings.specs.declared.types.WordWhy.{WordWhy}
+use Rattle.tetra_records.specs.Records.{why as record_why}
 use Rattle.tetra_records.specs.declared.faults.RecordFault.{RecordFault}
 use Rattle.tetra_records.specs.declared.faults.RecordFault.TheVariants.{Truncated}
 use Rattle.tetra_audit.specs.declared.verdict.SlotVerdict.{SlotVerdict}
@@ -13,19 +14,18 @@ use Rattle.tetra_engine.specs.declared.status.End.{End}
 use Rattle.tetra_engine.specs.declared.status.Status.{Status}
 use Rattle.tetra_engine.specs.declared.status.Status.TheVariants.{Done, Refused, Words, TooLong, Input, Read, Write, NotBuilt}
 use Rattle.tetra_engine.specs.Shapes.{Shape}
-use Rattle.tetra_engine.specs.Framing.{is_built_slot, framing_stop}
 use Rattle.tetra_engine.specs.Encoding.{encoding}
 use Rattle.tetra_engine.specs.Decoding.{decoding}
 use Rattle.tetra_engine.specs.Auditing.{auditing, Claimed, refused_by, refused_slots, verdict_at, audit_status}
 use Rattle.tetra_engine.specs.Built.{is_built_command}
 use Rattle.tetra_engine.specs.Outcomes.{Outcome, Closes, EndsBy, Over}
 use Rattle.tetra_engine.specs.Running.{CommandEnds, Says, IsAudit}
-use Rattle.tetra_engine.proofs.Ends.{two_ways}
+use Rattle.tetra_engine.proofs.Ends.{one_way}
 use Rattle.tetra_engine.proofs.Audited.{refused_few}
 
 -- a status where bytes begin no input
 abbrev IsStop : ℕ → Status → Type 0
-IsStop n status = ((why : RecordFault) × (status ≡ Input n why)) ⊎ (status ≡ NotBuilt)
+IsStop n status = (why : RecordFault) × (status ≡ Input n why)
 
 abbrev StopsSo : {X : Type 0} → Shape X → Type 0
 StopsSo {X} shape = (xs : List X) (bytes : List ℕ) (status : Status) → shape.Stops xs bytes status → IsStop (length xs) status
@@ -75,26 +75,14 @@ module _ {X : Type 0} (shape : Shape X) (A : Type 0) (stops : StopsSo shape) (do
   ends_said NotBuilt is ends = over_said ends
 
 -- how the three commands stop
-either : (n : ℕ) (b : Bool) (s t : Status) → IsStop n s → IsStop n t → IsStop n (if b then s else t)
-either n true s t p q = p
-either n false s t p q = q
-
-framing_stops : (settings : Settings) (n : ℕ) (bytes : List ℕ) → IsStop n (framing_stop settings n bytes)
-framing_stops settings n bytes =
-    either n (nat_lt (length bytes) 510) (Input n Truncated) (if is_built_slot settings n (take 510 bytes) then Input n Truncated else NotBuilt) (inl (Truncated, refl))
-    (either n (is_built_slot settings n (take 510 bytes)) (Input n Truncated) NotBuilt (inl (Truncated, refl)) (inr refl))
-
 decoding_stops : (settings : Settings) → StopsSo (decoding settings)
-decoding_stops settings xs bytes status is = subst (IsStop (length xs)) (sym is) (framing_stops settings (length xs) bytes)
+decoding_stops settings xs bytes status is = (Truncated, is)
 
 auditing_stops : (settings : Settings) → StopsSo (auditing settings)
-auditing_stops settings xs bytes status is = subst (IsStop (length xs)) (sym is) (framing_stops settings (length xs) bytes)
+auditing_stops settings xs bytes status is = (Truncated, is)
 
 encoding_stops : (settings : Settings) → StopsSo (encoding settings)
-encoding_stops settings xs bytes status is = told (two_ways settings (length xs) bytes status is) where
-  told : {P Q : Type 0} {why : RecordFault} → (P × (status ≡ Input (length xs) why)) ⊎ (Q × (status ≡ NotBuilt)) → IsStop (length xs) status
-  told {P} {Q} {why} (inl (none, e)) = inl (why, e)
-  told (inr (begins, e)) = inr e
+encoding_stops settings xs bytes status stops = (record_why settings (length xs) bytes, one_way settings (length xs) bytes status stops)
 
 -- the first slot that is refused is one of those that were read
 by_verdict : (n : ℕ) (verdict : SlotVerdict) (rest : List ℕ) (slot : ℕ) (slots : List ℕ) → refused_by n verdict ++ rest ≡ slot ∷ slots → (n ≡ slot) ⊎ (rest ≡ slot ∷ slots)
@@ -126,8 +114,7 @@ module _ (A : Type 0) (max n : ℕ) where
   never_words i w (inr (inr (inl (inl e)))) = cc e
   never_words i w (inr (inr (inl (inr (s, c, e, a, some, few, first))))) = cc e
   never_words i w (inr (inr (inr (inl (full, e))))) = cc e
-  never_words i w (inr (inr (inr (inr (inl (why, e)))))) = cc e
-  never_words i w (inr (inr (inr (inr (inr e))))) = cc e
+  never_words i w (inr (inr (inr (inr (why, e))))) = cc e
 
   always_full : IsOf A max n TooLong → n ≡ max
   always_full (inl e) = absurd (cc e)
@@ -135,8 +122,7 @@ module _ (A : Type 0) (max n : ℕ) where
   always_full (inr (inr (inl (inl e)))) = absurd (cc e)
   always_full (inr (inr (inl (inr (s, c, e, a, some, few, first))))) = absurd (cc e)
   always_full (inr (inr (inr (inl (full, e))))) = full
-  always_full (inr (inr (inr (inr (inl (why, e)))))) = absurd (cc e)
-  always_full (inr (inr (inr (inr (inr e))))) = absurd (cc e)
+  always_full (inr (inr (inr (inr (why, e))))) = absurd (cc e)
 
   always_audit : (slot count : ℕ) → IsOf A max n (Refused slot count) → A × (0 < count) × (count ≤ n) × (slot < n)
   always_audit slot count (inl e) = absurd (cc e)
@@ -147,8 +133,7 @@ module _ (A : Type 0) (max n : ℕ) where
       let number : count ≡ c = cc e in
       (a, omega (arith, number), omega (arith, number), omega (arith, is))
   always_audit slot count (inr (inr (inr (inl (full, e))))) = absurd (cc e)
-  always_audit slot count (inr (inr (inr (inr (inl (why, e)))))) = absurd (cc e)
-  always_audit slot count (inr (inr (inr (inr (inr e))))) = absurd (cc e)
+  always_audit slot count (inr (inr (inr (inr (why, e))))) = absurd (cc e)
 
   always_next : (slot : ℕ) (why : RecordFault) → IsOf A max n (Input slot why) → slot ≡ n
   always_next slot why (inl e) = absurd (cc e)
@@ -156,8 +141,7 @@ module _ (A : Type 0) (max n : ℕ) where
   always_next slot why (inr (inr (inl (inl e)))) = absurd (cc e)
   always_next slot why (inr (inr (inl (inr (s, c, e, a, some, few, first))))) = absurd (cc e)
   always_next slot why (inr (inr (inr (inl (full, e))))) = absurd (cc e)
-  always_next slot why (inr (inr (inr (inr (inl (w, e)))))) = cc e
-  always_next slot why (inr (inr (inr (inr (inr e))))) = absurd (cc e)
+  always_next slot why (inr (inr (inr (inr (w, e))))) = cc e
 
 said : (command : Command) (settings : Settings) (end : End) → IsSaid (IsAudit (Ok (command, settings))) settings.max end → Says (Ok (command, settings)) end
 said command settings end (few, of) =

@@ -5,7 +5,6 @@ use Rattle.tetra_settings.specs.declared.types.Form.{Form}
 use Rattle.tetra_settings.specs.declared.types.Form.TheVariants.{Audit}
 use Rattle.tetra_settings.specs.declared.types.Settings.{Settings}
 use Rattle.tetra_settings.specs.Validity.{IsValid}
-use Rattle.tetra_session.specs.Built.{IsBuilt}
 use Rattle.tetra_audit.specs.declared.verdict.SlotVerdict.TheVariants.{Agrees}
 use Rattle.tetra_engine.specs.declared.status.Status.TheVariants.{Done}
 use Rattle.tetra_engine.specs.declared.status.End.{End}
@@ -26,7 +25,7 @@ agreeing_lines slots = flat_map (λ slot. verdict_line slot Agrees) (range_with_
 -- with as many slots.
 abbrev pub DecodedAgrees : Type 0
 DecodedAgrees = (settings : Settings) (form : Form) (max : ℕ) (bytes written : List ℕ) (end : End)
-    → IsValid settings → IsBuilt settings → settings.form ≡ Audit → end.slots ≤ max
+    → IsValid settings → settings.form ≡ Audit → end.slots ≤ max
     → Outcome (decoding settings) settings.max bytes (λ output. output ≡ written) end
     → Outcome (auditing (to_read_back settings form max)) max written (λ lines. lines ≡ agreeing_lines end.slots)
     (record { status = Done; slots = end.slots })

@@ -1,6 +1,6 @@
 -- What decoding reads of slots that encoding wrote: of each slot that arrives undamaged its blocks, whatever became of
 -- the others, and of protected data each block whose slots do.
-use Rattle.std.specs.Prelude.{◌≡◌, ◌⊎◌, ℕ, ◌+◌, ◌-◌, ◌<◌, ◌≤◌, Bool, false, List, [], ◌∷◌, ◌++◌, length, take, replicate, slice_index_or, ⊤, IsTrue}
+use Rattle.std.specs.Prelude.{◌≡◌, ℕ, ◌+◌, ◌<◌, ◌≤◌, false, List, [], ◌∷◌, ◌++◌, length, take, replicate, slice_index_or, All, ⊤}
 use Rattle.std.specs.List.{concat}
 use Rattle.tetra_settings.specs.declared.blocks.SlotBlocks.{SlotBlocks}
 use Rattle.tetra_settings.specs.declared.readings.SlotReading.{SlotReading}
@@ -10,21 +10,20 @@ use Rattle.tetra_records.specs.Readings.{reading_spelling}
 use Rattle.tetra_bits.specs.declared.reading.Mark.TheVariants.{Unchecked, NotYet}
 use Rattle.tetra_settings.specs.Readings.{message_bits, traffic_name}
 use Rattle.tetra_settings.specs.Slots.{timeslot_of, mode_of, use_of}
+use Rattle.tetra_settings.specs.declared.readings.FieldName.{FieldName}
 use Rattle.tetra_settings.specs.declared.readings.FieldName.TheVariants.{Whole}
-use Rattle.tetra_settings.specs.declared.slots.Letter.TheVariants.{T}
+use Rattle.tetra_settings.specs.declared.slots.Letter.{Letter}
 use Rattle.tetra_settings.specs.declared.slots.SlotUse.TheVariants.{Traffic}
-use Rattle.tetra_session.specs.Arrives.{HasField, SlotRead}
-use Rattle.tetra_session.specs.Built.{IsBuilt}
-use Rattle.tetra_session.specs.Data.{LastSlots, load_place}
+use Rattle.tetra_session.specs.Arrives.{HasField, HasFieldUpTo, SlotRead}
+use Rattle.tetra_session.specs.Data.{LastSlots, IsWhole, load_index, load_sent}
 use Rattle.tetra_session.specs.Heard.{letter_heard}
-use Rattle.tetra_session.specs.Sent.{slot_written, KeepsSlot, load_of}
+use Rattle.tetra_session.specs.Sent.{slot_written, KeepsSlot}
 use Rattle.tetra_session.specs.Time.{timeslot_mode, depth, own}
 use Rattle.tetra_engine.specs.declared.status.Status.TheVariants.{Done}
 use Rattle.tetra_engine.specs.declared.status.End.{End}
 use Rattle.tetra_engine.specs.Agreeing.{to_read_back}
 use Rattle.tetra_engine.specs.Decoding.{decoding, framed}
 use Rattle.tetra_engine.specs.Encoding.{encoding}
-use Rattle.tetra_engine.specs.Framing.{is_built_slot}
 use Rattle.tetra_engine.specs.Outcomes.{Outcome}
 use Rattle.tetra_engine.specs.Slots.{soft_values, slot_bytes}
 
@@ -32,15 +31,10 @@ use Rattle.tetra_engine.specs.Slots.{soft_values, slot_bytes}
 abbrev pub IsKept : Settings → List SlotBlocks → SlotBlocks → List ℕ → Type 0
 IsKept settings before blocks slot = KeepsSlot settings before blocks (soft_values slot)
 
--- Received slots, one for each of the blocks behind those before: each of 510 bytes, and undamaged or of a letter that
--- is built.
-abbrev pub AreReceived : Settings → List SlotBlocks → List SlotBlocks → List (List ℕ) → Type 0
-AreReceived settings before [] [] = Unit {0}
-AreReceived settings before [] (slot ∷ slots) = ⊥
-AreReceived settings before (blocks ∷ more) [] = ⊥
-AreReceived settings before (blocks ∷ more) (slot ∷ slots) =
-    ((length slot ≡ 510) × (IsKept settings before blocks slot ⊎ IsTrue (is_built_slot settings (length before) slot)))
-    × AreReceived settings (before ++ blocks ∷ []) more slots
+-- received slots, one for each of the blocks that were sent: each of 510 bytes, whatever they are
+pub record AreReceived (blocks : List SlotBlocks) (slots : List (List ℕ)) : Type 0 where
+  pub many : length slots ≡ length blocks
+  pub sizes : All (λ slot. length slot ≡ 510) slots
 
 -- one reading for each slot, which names the blocks of the slot where When says so
 abbrev pub AreRead : (List SlotBlocks → SlotBlocks → List ℕ → Type 0)
@@ -50,35 +44,34 @@ AreRead When before (blocks ∷ more) (slot ∷ slots) (reading ∷ readings) =
     (When before blocks slot → SlotRead blocks reading) × AreRead When (before ++ blocks ∷ []) more slots readings
 AreRead When before blocks slots readings = ⊥
 
--- Protected data, whose blocks come over several slots: of slot t, one of traffic in a timeslot that spreads its blocks
--- over n slots, with the letter T, the field of the load is not yet there in the first n - 1 traffic slots of the
--- timeslot; then it names the block of which slot t has the last bits, where When says so of each of its n slots.
-abbrev pub load_complete : Settings → List SlotBlocks → ℕ → SlotBlocks → List Bool
-load_complete settings blocks t other =
-    let c = timeslot_of settings.at t in
-    let loads = own settings.at c (take (t + 1) blocks) in
-    load_of (slice_index_or loads (length loads - depth (timeslot_mode settings c)) other).body
-
-pub record DataIsRead (When : List SlotBlocks → SlotBlocks → List ℕ → Type 0) (settings : Settings)
-    (blocks : List SlotBlocks) (slots : List (List ℕ)) (t : ℕ) (reading : SlotReading) : Type 0 where
-  pub early : length (own settings.at (timeslot_of settings.at t) (take (t + 1) blocks)) < depth (mode_of settings t)
-      → HasField reading (load_place settings.dir) (traffic_name (mode_of settings t) Whole) NotYet
-      (replicate (message_bits (traffic_name (mode_of settings t) Whole)) false)
-  pub complete : depth (mode_of settings t) ≤ length (own settings.at (timeslot_of settings.at t) (take (t + 1) blocks))
-      → LastSlots (λ u. (other : SlotBlocks) (none : List ℕ)
-      → When (take u blocks) (slice_index_or blocks u other) (slice_index_or slots u none))
-      settings (timeslot_of settings.at t) (take (t + 1) blocks)
+-- Protected data, whose blocks come over several slots: the field of the load in the reading of the last of these slots,
+-- which is one of traffic of timeslot c and is read with this letter. It is not yet there in the first n - 1 traffic
+-- slots; then, where Kept says so of each of the n slots of the block that is complete, it names that block, or where
+-- something was stolen of them, that or one that stands before it in bit order.
+pub record DataIsRead (Kept : ℕ → Type 0) (settings : Settings) (c : ℕ) (history : List SlotBlocks) (letter : Letter)
+    (name : FieldName) (reading : SlotReading) : Type 0 where
+  pub early : length (own settings.at c history) < depth (timeslot_mode settings c)
+      → HasField reading (load_index settings.dir letter) name NotYet (replicate (message_bits name) false)
+  pub complete : depth (timeslot_mode settings c) ≤ length (own settings.at c history)
+      → LastSlots Kept settings c history → LastSlots (IsWhole history) settings c history
       → (other : SlotBlocks)
-      → HasField reading (load_place settings.dir) (traffic_name (mode_of settings t) Whole) Unchecked
-      (load_complete settings blocks t other)
+      → HasField reading (load_index settings.dir letter) name Unchecked (load_sent settings c history other)
+  pub stolen : depth (timeslot_mode settings c) ≤ length (own settings.at c history)
+      → LastSlots Kept settings c history
+      → (other : SlotBlocks)
+      → HasFieldUpTo reading (load_index settings.dir letter) name Unchecked (load_sent settings c history other)
 
+-- so each slot of traffic in a timeslot that spreads its blocks is read, where When says which slots were kept
 abbrev pub AreDataRead : (List SlotBlocks → SlotBlocks → List ℕ → Type 0)
     → Settings → List SlotBlocks → List (List ℕ) → List SlotReading → Type 0
 AreDataRead When settings blocks slots readings =
     (t : ℕ) (none : List ℕ) (other : SlotReading) → t < length slots
     → use_of settings t ≡ Traffic → 1 ≤ depth (mode_of settings t)
-    → letter_heard settings t (soft_values (slice_index_or slots t none)) ≡ T
-    → DataIsRead When settings blocks slots t (slice_index_or readings t other)
+    → DataIsRead (λ u. (blank : SlotBlocks) (empty : List ℕ)
+    → When (take u blocks) (slice_index_or blocks u blank) (slice_index_or slots u empty))
+    settings (timeslot_of settings.at t) (take (t + 1) blocks)
+    (letter_heard settings t (soft_values (slice_index_or slots t none))) (traffic_name (mode_of settings t) Whole)
+    (slice_index_or readings t other)
 
 -- the records of readings, each behind the bytes of its slot where they are to be audited
 abbrev pub records : Form → List (List ℕ) → List SlotReading → List ℕ
@@ -100,7 +93,7 @@ abbrev pub ReceivedIsDecoded : Type 0
 ReceivedIsDecoded =
     (settings : Settings) (form : Form) (max : ℕ) (bytes : List ℕ) (end : End)
     (ran : Outcome (encoding settings) settings.max bytes (λ written. ⊤) end) (received : List (List ℕ))
-    → IsBuilt settings → end.slots ≤ max → AreReceived settings [] ran.xs received
+    → end.slots ≤ max → AreReceived ran.xs received
     → Outcome (decoding (to_read_back settings form max)) max (concat received)
     (NameBlocks (IsKept settings) settings form ran.xs received) (record { status = Done; slots = end.slots })
 
@@ -115,7 +108,7 @@ abbrev pub EncodedIsDecoded : Type 0
 EncodedIsDecoded =
     (settings : Settings) (form : Form) (max : ℕ) (bytes written : List ℕ) (end : End)
     (ran : Outcome (encoding settings) settings.max bytes (λ output. output ≡ written) end)
-    → IsBuilt settings → end.slots ≤ max
+    → end.slots ≤ max
     → Outcome (decoding (to_read_back settings form max)) max written
     (NameBlocks (λ before blocks slot. ⊤) settings form ran.xs (slots_for settings [] ran.xs))
     (record { status = Done; slots = end.slots })

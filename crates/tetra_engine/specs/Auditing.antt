@@ -1,15 +1,15 @@
 -- What an audit reads and writes: slots of 510 bytes with a reading record behind each, and a line for each.
-use Rattle.std.specs.Prelude.{◌≡◌, ℕ, List, [], ◌∷◌, ◌++◌, length, map, ℤ, IsTrue}
+use Rattle.std.specs.Prelude.{◌≡◌, ℕ, List, [], ◌∷◌, ◌++◌, length, map, ℤ}
 use Rattle.tetra_settings.specs.declared.types.Settings.{Settings}
 use Rattle.tetra_engine.specs.declared.status.Status.{Status}
-use Rattle.tetra_engine.specs.declared.status.Status.TheVariants.{Done, Refused}
+use Rattle.tetra_engine.specs.declared.status.Status.TheVariants.{Done, Refused, Input}
+use Rattle.tetra_records.specs.declared.faults.RecordFault.TheVariants.{Truncated}
 use Rattle.tetra_session.specs.declared.front.Front.{Front}
 use Rattle.tetra_session.specs.Heard.{slot_front}
 use Rattle.tetra_audit.specs.declared.verdict.SlotVerdict.{SlotVerdict}
 use Rattle.tetra_audit.specs.declared.verdict.SlotVerdict.TheVariants.{Agrees, Kind, Field}
 use Rattle.tetra_audit.specs.Fields.{claim_length}
 use Rattle.tetra_audit.specs.Verdicts.{slot_verdict}
-use Rattle.tetra_engine.specs.Framing.{is_built_slot, framing_stop}
 use Rattle.tetra_engine.specs.Shapes.{Shape}
 use Rattle.tetra_engine.specs.Slots.{soft_values}
 use Rattle.tetra_engine.specs.Verdicts.{verdict_line}
@@ -48,13 +48,12 @@ abbrev pub audit_status : List ℕ → Status
 audit_status [] = Done
 audit_status (slot ∷ slots) = Refused slot (length (slot ∷ slots))
 
--- an input is a slot of 510 bytes whose letter is built, and as many bytes as its reading record has with certificates
+-- an input is a slot of 510 bytes, and as many bytes as its reading record has with certificates; fewer are cut off
 abbrev pub auditing : Settings → Shape Claimed
 auditing settings = record {
-  Fits = λ before input. (length input.0 ≡ 510) × IsTrue (is_built_slot settings (length before) input.0)
-      × (length input.1 ≡ claim_length (front_at settings before input.0));
+  Fits = λ before input. (length input.0 ≡ 510) × (length input.1 ≡ claim_length (front_at settings before input.0));
   spelling = λ input. input.0 ++ input.1;
-  Stops = λ before bytes status. status ≡ framing_stop settings (length before) bytes;
+  Stops = λ before bytes status. status ≡ Input (length before) Truncated;
   out = λ before input. verdict_line (length before) (verdict_at settings before input);
   done = λ inputs. audit_status (refused_slots settings [] inputs);
 }

@@ -12,5 +12,5 @@ pub record DecoderStands (d : Decoder) (before : List (List ℕ)) : Type 0 where
 pub record DecoderHolds (d : Decoder) (before : List (List ℕ)) (slot : List ℕ) : Type 0 where
   pub stands : DecoderStands d before
   pub few : length before < 16777216
-  pub holds : HoldsSlot d.intake (length before)
+  pub holds : HoldsSlot d.intake
   pub bytes : d.intake.bytes ≡ slot

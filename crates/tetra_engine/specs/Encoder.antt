@@ -1,11 +1,9 @@
 -- What an encoder stands for.
 use Rattle.std.specs.Prelude.{◌≡◌, ◌<◌, List, length, Some}
 use Rattle.tetra_settings.specs.declared.blocks.SlotBlocks.{SlotBlocks}
-use Rattle.tetra_settings.specs.Slots.{byte_of}
-use Rattle.tetra_settings.specs.Blocks.{Fits, letter_of}
+use Rattle.tetra_settings.specs.Blocks.{Fits}
 use Rattle.tetra_settings.specs.Validity.{IsValid}
 use Rattle.tetra_engine.specs.declared.encoder.Encoder.{Encoder}
-use Rattle.tetra_session.specs.Built.{IsBuiltLetter}
 use Rattle.tetra_session.specs.Sent.{SenderStands}
 
 -- it has read and written these blocks
@@ -19,4 +17,3 @@ pub record EncoderHolds (e : Encoder) (before : List SlotBlocks) (blocks : SlotB
   pub few : length before < 16777216
   pub held : e.blocks ≡ Some blocks
   pub fits : Fits e.settings (length before) blocks
-  pub built : IsBuiltLetter (byte_of (letter_of blocks.body))

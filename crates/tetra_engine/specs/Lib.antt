@@ -7,7 +7,6 @@ pub mod Slots
 pub mod Built
 pub mod Encoding
 pub mod Encoder
-pub mod Framing
 pub mod Intake
 pub mod Decoding
 pub mod Decoder

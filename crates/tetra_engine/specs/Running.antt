@@ -10,7 +10,7 @@ use Rattle.tetra_engine.specs.declared.status.Status.{Status}
 use Rattle.tetra_engine.specs.declared.status.Status.TheVariants.{Words, NotBuilt, TooLong, Refused, Input}
 use Rattle.tetra_engine.specs.declared.status.End.{End}
 use Rattle.tetra_engine.specs.Auditing.{auditing}
-use Rattle.tetra_engine.specs.Built.{is_ready}
+use Rattle.tetra_engine.specs.Built.{is_built_command}
 use Rattle.tetra_engine.specs.Decoding.{decoding}
 use Rattle.tetra_engine.specs.Encoding.{encoding}
 use Rattle.tetra_engine.specs.Outcomes.{EndsBy, Outcome, Grows, ReadsOut}
@@ -19,23 +19,23 @@ use Rattle.tetra_engine.specs.Outcomes.{EndsBy, Outcome, Grows, ReadsOut}
 abbrev pub StopsAt : Status → Type 0 → Type 0 → End → Type 0
 StopsAt status Source Sink end = Source × Sink × (end ≡ record { status = status; slots = 0 })
 
--- A run whose words are faulty, or not built, ends so, with nothing read, written or flushed. Source and Sink say that
--- both are as they were.
+-- A run whose words are faulty, or whose command is not built, ends so, with nothing read, written or flushed. Source
+-- and Sink say that both are as they were.
 abbrev pub StartsBuilt : Bool → Type 0 → Type 0 → End → Type 0
 StartsBuilt true Source Sink end = Unit {0}
 StartsBuilt false Source Sink end = StopsAt NotBuilt Source Sink end
 
 abbrev pub Starts : Result (Command × Settings) WordFault → Type 0 → Type 0 → End → Type 0
-Starts (Ok (command, settings)) Source Sink end = StartsBuilt (is_ready command settings) Source Sink end
+Starts (Ok (command, settings)) Source Sink end = StartsBuilt (is_built_command command) Source Sink end
 Starts (Err fault) Source Sink end = StopsAt (Words fault.index fault.why) Source Sink end
 
--- what holds of a run whose words pass and are built
+-- what holds of a run whose words pass and whose command is built
 abbrev pub IfBuilt : Bool → Type 0 → Type 0
 IfBuilt true P = P
 IfBuilt false P = Unit {0}
 
 abbrev pub IfReady : Result (Command × Settings) WordFault → (Command → Settings → Type 0) → Type 0
-IfReady (Ok (command, settings)) P = IfBuilt (is_ready command settings) (P command settings)
+IfReady (Ok (command, settings)) P = IfBuilt (is_built_command command) (P command settings)
 IfReady (Err fault) P = Unit {0}
 
 -- the end of a command's run; a command that is not built has none
@@ -72,7 +72,7 @@ RunsBuilt false command settings bytes end = end ≡ record { status = NotBuilt;
 
 -- the end of a run over these bytes that meets no fault
 abbrev pub RunsOver : Result (Command × Settings) WordFault → List ℕ → End → Type 0
-RunsOver (Ok (command, settings)) bytes end = RunsBuilt (is_ready command settings) command settings bytes end
+RunsOver (Ok (command, settings)) bytes end = RunsBuilt (is_built_command command) command settings bytes end
 RunsOver (Err fault) bytes end = end ≡ record { status = Words fault.index fault.why; slots = 0 }
 
 -- the words are those of an audit

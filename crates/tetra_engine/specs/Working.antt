@@ -6,10 +6,10 @@ use Rattle.tetra_io.specs.Streams.{Rose, next_count}
 use Rattle.tetra_io.specs.Filling.{TakesFewer}
 use Rattle.tetra_records.specs.Records.{ends_by_fault}
 use Rattle.tetra_engine.specs.declared.status.Status.{Status}
-use Rattle.tetra_engine.specs.declared.status.Status.TheVariants.{Input, Read, TooLong, NotBuilt as NotBuiltStatus}
+use Rattle.tetra_engine.specs.declared.status.Status.TheVariants.{Input, Read, TooLong}
 use Rattle.tetra_engine.specs.declared.status.End.{End as EndRecord}
 use Rattle.tetra_engine.specs.declared.work.Stop.{Stop}
-use Rattle.tetra_engine.specs.declared.work.Stop.TheVariants.{End, Bad, NotBuilt, More, Fault}
+use Rattle.tetra_engine.specs.declared.work.Stop.TheVariants.{End, Bad, More, Fault}
 use Rattle.tetra_engine.specs.Shapes.{Shape, AreInputs, spellings, outputs, NoInput}
 use Rattle.tetra_engine.specs.Outcomes.{Over, Came, IsPart}
 
@@ -27,7 +27,6 @@ abbrev pub StopGives : {X : Type 0} → Shape X → List X
     → Option (List ℕ) → Option (List ℕ) → Type 0 → Stop → Type 0
 StopGives shape before old new Stands End = Stands × IsAtEnd old × IsAtEnd new
 StopGives shape before old new Stands (Bad why) = NoneBegins shape before old (Input (length before) why)
-StopGives shape before old new Stands NotBuilt = NoneBegins shape before old NotBuiltStatus
 StopGives shape before old new Stands More = ⊥
 StopGives shape before old new Stands Fault = TakesPart shape before old new
 
@@ -44,14 +43,12 @@ PastGives old new End = IsAtEnd old × IsAtEnd new
 PastGives old new More = (byte : List ℕ) × (length byte ≡ 1) × Consumes old new byte
 PastGives old new Fault = TakesFewer old new 1
 PastGives old new (Bad why) = ⊥
-PastGives old new NotBuilt = ⊥
 
 -- a failed read has its cause
 abbrev pub StopRose : ℕ → ℕ → Stop → Type 0
 StopRose before now Fault = Rose before now
 StopRose before now End = Unit {0}
 StopRose before now (Bad why) = Unit {0}
-StopRose before now NotBuilt = Unit {0}
 StopRose before now More = Unit {0}
 
 abbrev pub ReadRose : ℕ → ℕ → Result (Unit {0}) Stop → Type 0
@@ -62,7 +59,6 @@ ReadRose before now (Err stop) = StopRose before now stop
 abbrev pub ends_by_stop : Stop → ℕ → ℕ
 ends_by_stop End before = next_count before
 ends_by_stop (Bad why) before = ends_by_fault why before
-ends_by_stop NotBuilt before = before
 ends_by_stop More before = before
 ends_by_stop Fault before = before
 
@@ -74,7 +70,6 @@ ends_by_input (Err stop) before = ends_by_stop stop before
 abbrev pub end_by : Stop → Status → ℕ → EndRecord
 end_by End status slots = record { status = status; slots = slots }
 end_by (Bad why) status slots = record { status = Input slots why; slots = slots }
-end_by NotBuilt status slots = record { status = NotBuiltStatus; slots = slots }
 end_by More status slots = record { status = TooLong; slots = slots }
 end_by Fault status slots = record { status = Read; slots = slots }
 

@@ -1,7 +1,6 @@
 // An audit as a work over slots.
 ghost use Rattle.std.specs.Prelude.{◌≡◌, ◌<◌, ◌≤◌, length, List, ℕ, [], take};
 ghost use Rattle.tetra_settings.specs.Validity.{IsValid};
-ghost use Rattle.tetra_session.specs.Built.{IsBuilt};
 ghost use Rattle.tetra_engine.specs.Auditing.{auditing, Claimed};
 
 use crate::intake::Intake;
@@ -36,7 +35,6 @@ impl Auditor {
     /// An audit before the first slot.
     pub fn new(settings: &Settings) -> Auditor
         requires valid { IsValid settings.now }
-        requires built { IsBuilt settings.now }
         ensures stands { AuditorStands result [] }
         ensures settings { result.intake.settings ≡ settings.now }
     {

@@ -1,7 +1,6 @@
 // Decoding as a work over slots.
 ghost use Rattle.std.specs.Prelude.{◌≡◌, ◌<◌, ◌≤◌, length, List, ℕ, [], All};
 ghost use Rattle.tetra_settings.specs.Validity.{IsValid};
-ghost use Rattle.tetra_session.specs.Built.{IsBuilt};
 ghost use Rattle.tetra_engine.specs.Decoding.{decoding, framed};
 ghost use Rattle.tetra_records.specs.Readings.{reading_spelling, IsSmall};
 ghost use Rattle.tetra_settings.specs.Readings.{IsWellFormed};
@@ -28,7 +27,6 @@ impl Decoder {
     /// A decoder before the first slot.
     pub fn new(settings: &Settings) -> Decoder
         requires valid { IsValid settings.now }
-        requires built { IsBuilt settings.now }
         ensures stands { DecoderStands result [] }
         ensures settings { result.intake.settings ≡ settings.now }
     {

@@ -2,15 +2,14 @@
 ghost use Rattle.std.specs.Prelude.{◌≡◌, ◌<◌, ◌≤◌, length, List, Some, []};
 ghost use Rattle.tetra_settings.specs.declared.blocks.SlotBlocks.{SlotBlocks};
 ghost use Rattle.tetra_settings.specs.Validity.{IsValid};
-ghost use Rattle.tetra_session.specs.Built.{IsBuilt};
 ghost use Rattle.tetra_engine.specs.Encoding.{encoding};
 
 use crate::slots::write_values;
 use crate::status::Status;
 use crate::work::{Stop, Work};
 use tetra_io::{Sink, SinkFault, Source, put_all};
-use tetra_records::{NextFault, next_record, records_are_unambiguous};
-use tetra_session::{Sender, is_built_letter};
+use tetra_records::{NextFault, next_record};
+use tetra_session::Sender;
 use tetra_settings::{Settings, SlotBlocks};
 
 /// Encoding: the blocks of the slot that was read last, and the sender that they go to.
@@ -28,7 +27,6 @@ impl Encoder {
     /// An encoder before the first slot.
     pub fn new(settings: &Settings) -> Encoder
         requires valid { IsValid settings.now }
-        requires built { IsBuilt settings.now }
         ensures stands { EncoderStands result [] }
         ensures settings { result.settings ≡ settings.now }
     {
@@ -60,11 +58,6 @@ impl Work for Encoder {
     fn read<S: Source>(&mut self, src: &mut S, slot: u32) -> Result<(), Stop> {
         match next_record(src, &self.settings, slot) {
             Ok(Some(blocks)) => {
-                if !is_built_letter(blocks.body.letter().byte()) {
-                    // So no record of a letter that is built begins these bytes.
-                    records_are_unambiguous();
-                    return Err(Stop::NotBuilt);
-                }
                 self.blocks = Some(blocks);
                 Ok(())
             }

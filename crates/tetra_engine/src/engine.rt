@@ -3,7 +3,6 @@ ghost use Rattle.std.specs.Prelude.{◌≡◌, ◌≢◌, ◌≤◌, IsTrue};
 ghost use Rattle.tetra_io.specs.Streams.{Rose};
 ghost use Rattle.tetra_settings.specs.Validity.{IsValid};
 ghost use Rattle.tetra_settings.specs.Words.{texts, meaning};
-ghost use Rattle.tetra_session.specs.Built.{IsBuilt};
 ghost use Rattle.tetra_engine.specs.Built.{is_built_command};
 ghost use Rattle.tetra_engine.specs.Outcomes.{EndsBy, Grows};
 ghost use Rattle.tetra_engine.specs.Running.{Starts, IfReady, CommandEnds, CommandLeaves, Says};
@@ -14,7 +13,6 @@ use crate::encoder::Encoder;
 use crate::status::{End, Status};
 use crate::work::finish;
 use tetra_io::{Sink, Source};
-use tetra_session::is_built;
 use tetra_settings::{Command, Settings, read_words};
 
 /// Whether the command is built.
@@ -36,7 +34,6 @@ fn run_command<S: Source, K: Sink>(
 ) -> End
     requires valid { IsValid settings.now }
     requires command { IsTrue (is_built_command command) }
-    requires built { IsBuilt settings.now }
     ensures ends { CommandEnds command settings.now (S.rest src.old) (S.rest src.new)
         (K.taken sink.old) (K.taken sink.new) result }
     ensures leaves { CommandLeaves command result.status (S.rest src.new) (S.ends src.old) (S.ends src.new) }
@@ -55,11 +52,11 @@ fn run_command<S: Source, K: Sink>(
 /// All that the program does, from the words and the bytes that come in to the bytes that go out.
 ///
 /// `encode` reads block records and writes slots, `decode` reads slots and writes reading records, and `audit` reads
-/// slots with reading records and writes a line for each. Faulty words, and words that are not built yet, end the run
+/// slots with reading records and writes a line for each. Faulty words, and commands that are not built yet, end the run
 /// before anything is read, written or flushed. Else the outcome is a function of the words and the bytes, however
 /// the source cuts them, but where a read, a write or the flush fails. This project's own.
 pub fn run<S: Source, K: Sink>(words: &[String], src: &mut S, sink: &mut K) -> End
-    // Faulty words give Words, and words that are not built give NotBuilt. Then source and sink are as they were.
+    // Faulty words give Words, and a command that is not built gives NotBuilt. Then source and sink are as they were.
     ensures starts { Starts (meaning (texts words.now)) (src.new ≡ src.old) (sink.new ≡ sink.old) result }
     // Each other end is the one that the bytes define, with its output, or what stands after a fault. The bytes are
     // those that the source tells, and some where it tells none.
@@ -90,7 +87,7 @@ pub fn run<S: Source, K: Sink>(words: &[String], src: &mut S, sink: &mut K) -> E
             };
         }
     };
-    if !(is_built_command(command) && is_built(&settings)) {
+    if !is_built_command(command) {
         return End {
             status: Status::NotBuilt,
             slots: 0,

@@ -1,13 +1,12 @@
 // Slots of 510 bytes, one behind the other, and the receiver that they go to.
-ghost use Rattle.std.specs.Prelude.{◌≡◌, ◌≤◌, [], List, ℤ, length};
+ghost use Rattle.std.specs.Prelude.{◌≡◌, ◌≤◌, []};
 ghost use Rattle.tetra_settings.specs.Validity.{IsValid};
-ghost use Rattle.tetra_session.specs.Built.{IsBuilt};
 
 use crate::slots::read_values;
 use crate::work::Stop;
 use tetra_io::{Filled, Source, fill};
 use tetra_records::RecordFault;
-use tetra_session::{Receiver, is_built_letter};
+use tetra_session::Receiver;
 use tetra_settings::Settings;
 
 /// What a command takes in that reads slots: the slot that was read last, as bytes and as soft values, and the receiver
@@ -27,7 +26,6 @@ impl Intake {
     /// An intake before the first slot.
     pub fn new(settings: &Settings) -> Intake
         requires valid { IsValid settings.now }
-        requires built { IsBuilt settings.now }
         ensures stands { IntakeStands result [] }
         ensures settings { result.settings ≡ settings.now }
     {
@@ -41,8 +39,7 @@ impl Intake {
 
     /// Reads the next slot. The receiver takes nothing of it yet.
     pub fn next<S: Source>(&mut self, src: &mut S) -> Result<(), Stop>
-        ensures gives { (heard : List (List ℤ)) → IntakeStands self.old heard
-            → IntakeGives self.new (length heard) (S.rest src.old) (S.rest src.new) result }
+        ensures gives { IntakeGives self.new (S.rest src.old) (S.rest src.new) result }
         ensures settings { self.new.settings ≡ self.old.settings }
         ensures receiver { self.new.receiver ≡ self.old.receiver }
         ensures later { S.faults src.old ≤ S.faults src.new }
@@ -56,9 +53,6 @@ impl Intake {
             Filled::Fault => return Err(Stop::Fault),
         }
         read_values(&self.bytes, &mut self.soft);
-        if !is_built_letter(self.receiver.letter(&self.soft)) {
-            return Err(Stop::NotBuilt);
-        }
         Ok(())
     }
 }

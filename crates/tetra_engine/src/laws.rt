@@ -42,7 +42,8 @@ pub fn decoded_agrees()
 /// What a run of encoding in which no read and no write failed wrote is read back, slot by slot: decoding what was
 /// received of it, in either form under the same settings, with any greatest number of slots that is not below theirs,
 /// ends Done and names the blocks of each slot that arrived undamaged, whatever became of the others. Of protected data
-/// it names each block whose slots all arrived undamaged, at the last of them.
+/// it names each block whose slots all arrived undamaged, at the last of them. Data of which a half slot was stolen may
+/// stand before what was sent in bit order.
 pub fn encoded_is_decoded()
     ensures received { ReceivedIsDecoded }
     ensures as_written { EncodedIsDecoded }

@@ -19,7 +19,7 @@ pub enum Status {
     Write,
     /// There are bytes behind as many slots as the words allow.
     TooLong,
-    /// The words, or the letter of the slot behind those that went out, are not built yet.
+    /// The command is not built yet.
     NotBuilt,
 }
 

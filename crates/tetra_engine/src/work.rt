@@ -20,8 +20,6 @@ pub enum Stop {
     End,
     /// Bytes that are no input of the slot.
     Bad(RecordFault),
-    /// An input whose letter is not built yet.
-    NotBuilt,
     /// A byte behind the last slot that may be read.
     More,
     /// A read failed.
@@ -129,7 +127,6 @@ fn ended(stop: Stop, at_end: Status, slots: u32) -> End
     let status = match stop {
         Stop::End => at_end,
         Stop::Bad(why) => Status::Input { slot: slots, why },
-        Stop::NotBuilt => Status::NotBuilt,
         Stop::More => Status::TooLong,
         Stop::Fault => Status::Read,
     };

@@ -8,4 +8,4 @@ pub returns-clause-gives : goal.returns-clause-gives
 returns-clause-gives g c xs stands slot =
     let next : IntakeStands c.next.new.self (map soft_values xs) = search rules in
     let few : length xs < 16777216 = omega (arith, slot, c.requires.slot) in
-    decoding_read c.args.self.now.intake.settings _ xs _ _ c.next.result c.next.ensures.settings next few (c.next.ensures.gives (map soft_values xs) stands.intake)
+    decoding_read c.args.self.now.intake.settings _ xs _ _ c.next.result next few c.next.ensures.gives

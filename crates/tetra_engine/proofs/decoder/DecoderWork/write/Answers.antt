@@ -15,7 +15,6 @@ returns-clause-stands g c xs x holds =
     record {
       intake = record {
         valid = holds.stands.intake.valid;
-        built = holds.stands.intake.built;
         receiver = subst (λ h. ReceiverStands c.args.self.now.intake.settings h c.slot_into.new.self) given next;
       };
     }

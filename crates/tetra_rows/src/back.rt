@@ -1,19 +1,20 @@
 // Blocks that were worked out by hand, sent and read back: that the letters of both directions, their layouts and their
 // lengths are the ones that are written down.
-use crate::bytes::bytes;
+use crate::bytes::{bytes, is_written};
 use crate::runs::{SURE, run_over};
+use std::process::Abort;
 use std::test::Fail;
 
 /// Words behind the command, the block records, and the reading records of the slots that are sent for them.
 #[derive(Clone, Copy)]
-struct Back {
-    words: &'static str,
-    blocks: &'static str,
-    readings: &'static str,
+struct Back<'a> {
+    words: &'a str,
+    blocks: &'a str,
+    readings: &'a str,
     slots: usize,
 }
 
-const BACK: [Back; 11] = [
+const BACK: [Back<'static>; 13] = [
     Back {
         words: "",
         blocks: "46 00 04 34*00",
@@ -100,37 +101,113 @@ const BACK: [Back; 11] = [
         readings: "54 47 00 00 36*00",
         slots: 1,
     },
+    Back {
+        words: "dir=ul ts1=speech",
+        blocks: "50 16*00 18*00",
+        readings: "50 47 00 00 15*00 05 34 B0 21*.. 47 00 00 18*00",
+        slots: 1,
+    },
+    Back {
+        words: "dir=ul ts1=d72",
+        blocks: "51 86*00",
+        readings: "50 47 00 00 15*00 05 34 B0 47 00 00 15*00 05 34 B0 55 00 00 54*00",
+        slots: 1,
+    },
 ];
+
+/// How many bytes are sent and how many are read.
+#[derive(Clone, Copy)]
+struct Sizes {
+    sent: usize,
+    read: usize,
+}
+
+/// Asserts that the blocks are sent and read back as they should be.
+fn holds(rt: &(impl Abort + AllocGlobal), row: &Back<'_>) -> Result<Sizes, Fail> {
+    let blocks = bytes(rt.alloc(), row.blocks)?;
+    let end = format!(in rt.alloc(); "0 {} ", row.slots)?;
+    let words = format!(in rt.alloc(); "encode {}", row.words)?;
+    let sent = run_over(rt.alloc(), &words, &blocks, SURE, 40_000)?;
+    assert_eq!(rt;
+        sent.end.as_str(),
+        end.as_str(),
+        "{words} of {}",
+        row.blocks
+    );
+    assert_eq!(rt;
+        sent.output.len() / 510,
+        row.slots,
+        "{words} of {}",
+        row.blocks
+    );
+    let words = format!(in rt.alloc(); "decode {}", row.words)?;
+    let read = run_over(rt.alloc(), &words, &sent.output, SURE, 20_000)?;
+    assert_eq!(rt;
+        read.end.as_str(),
+        end.as_str(),
+        "{words} of {}",
+        row.blocks
+    );
+    assert!(rt;
+        is_written(rt.alloc(), row.readings, &read.output)?,
+        "{words} of {}",
+        row.blocks
+    );
+    Ok(Sizes {
+        sent: sent.output.len(),
+        read: read.output.len(),
+    })
+}
 
 #[test]
 fn sent_and_read_back(rt: HostRuntime) -> Result<(), Fail> {
     for row in &BACK {
-        let blocks = bytes(rt.alloc(), row.blocks)?;
-        let readings = bytes(rt.alloc(), row.readings)?;
-        let end = format!(in rt.alloc(); "0 {} ", row.slots)?;
-        let words = format!(in rt.alloc(); "encode {}", row.words)?;
-        let sent = run_over(rt.alloc(), &words, &blocks, SURE, 20_000)?;
-        assert_eq!(rt;
-            sent.end.as_str(),
-            end.as_str(),
-            "{words} of {}",
-            row.blocks
-        );
-        assert_eq!(rt;
-            sent.output.len() / 510,
-            row.slots,
-            "{words} of {}",
-            row.blocks
-        );
-        let words = format!(in rt.alloc(); "decode {}", row.words)?;
-        let read = run_over(rt.alloc(), &words, &sent.output, SURE, 20_000)?;
-        assert_eq!(rt;
-            read.end.as_str(),
-            end.as_str(),
-            "{words} of {}",
-            row.blocks
-        );
-        assert!(rt; read.output == readings, "{words} of {}", row.blocks);
+        holds(&rt, row)?;
     }
+    Ok(())
+}
+
+/// The block record of a slot of a downlink carrier with signalling, TCH/4.8 over four slots, speech and TCH/7.2, and its
+/// reading record.
+fn records(slot: usize) -> (&'static str, &'static str) {
+    match slot {
+        0 => (
+            "53 00 00 24*00 ",
+            "53 55 00 00 00 00 47 00 00 7*00 01 2F 00 47 00 00 15*00 05 34 B0 ",
+        ),
+        18 => (
+            "50 00 00 34*00 ",
+            "50 55 00 00 00 00 47 00 00 15*00 05 34 B0 21*.. 47 00 00 18*00 ",
+        ),
+        1 | 5 | 9 => ("54 00 00 36*00 ", "54 55 00 00 00 00 4E 00 00 36*00 "),
+        _ if slot % 4 == 0 || slot >= 68 => (
+            "46 00 00 34*00 ",
+            "46 55 00 00 00 00 47 00 00 33*00 07 D7 40 ",
+        ),
+        _ if slot % 4 == 1 => ("54 00 00 36*00 ", "54 55 00 00 00 00 55 00 00 36*00 "),
+        _ if slot % 4 == 2 => ("54 00 00 35*00 ", "54 55 00 00 00 00 47 00 00 36*00 "),
+        _ => ("54 00 00 54*00 ", "54 55 00 00 00 00 55 00 00 54*00 "),
+    }
+}
+
+#[test]
+fn a_multiframe_of_a_carrier(rt: HostRuntime) -> Result<(), Fail> {
+    let (mut blocks, mut readings) = (String::new(rt.alloc()), String::new(rt.alloc()));
+    for slot in 0..72usize {
+        let (block, reading) = records(slot);
+        blocks.push_str(block)?;
+        readings.push_str(reading)?;
+    }
+    assert_eq!(rt; bytes(rt.alloc(), &blocks)?.len(), 3_044);
+    let sizes = holds(
+        &rt,
+        &Back {
+            words: "mcc=901 mnc=16383 cc=1 ts2=d48n4 ts3=speech ts4=d72",
+            blocks: &blocks,
+            readings: &readings,
+            slots: 72,
+        },
+    )?;
+    assert_eq!(rt; (sizes.sent, sizes.read), (36_720, 3_565));
     Ok(())
 }

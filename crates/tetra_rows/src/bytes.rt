@@ -1,5 +1,6 @@
 // Bytes as a table writes them.
 use crate::plain::code::{TRAINING, burst, colour, scrambling, signalling, traffic, written};
+use crate::plain::stolen;
 use std::alloc::{AllocError, Global};
 use std::test::Fail;
 
@@ -9,7 +10,8 @@ use std::test::Fail;
 /// - `key1` and `key2`: the halves of the zero key, a bit 0 as 7F and a bit 1 as 81,
 /// - `n` and `p`: the two training sequences of a normal burst, EN 300 392-2 clause 9.4.4.3.2, likewise,
 /// - `full`: the uplink slot with SCH/F of 268 zeros under the zero key,
-/// - `data`: the uplink slot with TCH/7.2 of 432 zeros under the zero key.
+/// - `data`: the uplink slot with TCH/7.2 of 432 zeros under the zero key,
+/// - `half`: the half slot with STCH of 124 zeros under the zero key.
 pub fn bytes(alloc: Global, text: &str) -> Result<Vec<u8>, Fail> {
     let mut all = Vec::new(alloc);
     for word in text.split_whitespace() {
@@ -26,6 +28,22 @@ pub fn bytes(alloc: Global, text: &str) -> Result<Vec<u8>, Fail> {
         }
     }
     Ok(all)
+}
+
+/// Whether bytes are those of a text, in which `21*..` stands for 21 bytes of any values.
+pub fn is_written(alloc: Global, text: &str, found: &[u8]) -> Result<bool, Fail> {
+    let mut rest = found;
+    for word in text.split_whitespace() {
+        let behind = match word.strip_suffix("*..") {
+            Some(count) => rest.get(count.parse::<usize>()?..),
+            None => rest.strip_prefix(bytes(alloc, word)?.as_slice()),
+        };
+        match behind {
+            Some(behind) => rest = behind,
+            None => return Ok(false),
+        }
+    }
+    Ok(rest.is_empty())
 }
 
 fn turn(all: &mut [u8], position: usize) {
@@ -50,15 +68,29 @@ fn add_bits(all: &mut Vec<u8>, bits: &[bool]) -> Result<(), AllocError> {
 }
 
 fn add_named(all: &mut Vec<u8>, word: &str) -> Result<bool, AllocError> {
-    let key = scrambling(&colour(0, 0, 0));
     match word {
-        "key1" => add_bits(all, &key[32..248])?,
-        "key2" => add_bits(all, &key[248..])?,
         "n" => add_bits(all, &TRAINING.map(|bit| bit == b'1'))?,
-        "p" => add_bits(all, &b"0111101001000011011110".map(|bit| bit == b'1'))?,
-        "full" => all.extend_from_slice(&burst(&signalling(&[false; 268], &key)))?,
-        "data" => all.extend_from_slice(&burst(&traffic(&[false; 432], &key)))?,
+        "p" => add_bits(all, &stolen::TRAINING.map(|bit| bit == b'1'))?,
+        "key1" | "key2" | "full" | "data" | "half" => {
+            add_keyed(all, word, &scrambling(&colour(0, 0, 0)))?;
+        }
         _ => return Ok(false),
     }
     Ok(true)
+}
+
+fn add_keyed(all: &mut Vec<u8>, word: &str, key: &[bool; 464]) -> Result<(), AllocError> {
+    match word {
+        "key1" => add_bits(all, &key[32..248]),
+        "key2" => add_bits(all, &key[248..]),
+        "full" => all.extend_from_slice(&burst(&signalling(&[false; 268], key))),
+        "data" => all.extend_from_slice(&burst(&traffic(&[false; 432], key))),
+        _ => add_half(all, key),
+    }
+}
+
+fn add_half(all: &mut Vec<u8>, key: &[bool; 464]) -> Result<(), AllocError> {
+    let mut slot = [false; 432];
+    stolen::steal(&mut slot, 0, &[false; 124], key);
+    add_bits(all, &slot[..216])
 }

@@ -5,7 +5,7 @@ use tetra_bits::{Bits, Soft, cost, soft_of};
 use tetra_bursts::{Allowed, Train, kind, phase_pair};
 use tetra_channels::Full;
 use tetra_diag::{Gather, Spread};
-use tetra_parity::{add8, holds8};
+use tetra_parity::{add4, add8, holds4, holds8};
 use tetra_puncture::{P148, P292, Plan, SpeechHalf, SpeechWhole, TwoThirds, keep};
 use tetra_rm::{decode, encode, own_rows};
 use tetra_scramble::{Colour, Key, key, zero_key};
@@ -102,6 +102,22 @@ fn places_of_speech(rt: HostRuntime) {
     for (j, place) in [(85usize, 169usize), (165, 281)] {
         assert_eq!(rt; SpeechHalf::place(j), place, "of half a slot, bit {j}");
     }
+}
+
+#[test]
+fn parity_of_speech_in_half_a_slot(rt: HostRuntime) {
+    let mut block = padded(&rt, false, 30);
+    assert!(rt; block.len() == 30);
+    block.set(29, true);
+    let mut message = add4(&block);
+    for (k, bit) in b"0011".iter().enumerate() {
+        assert!(rt; k < 4 && message.len() == 34);
+        assert_eq!(rt; message.get(30 + k), *bit == b'1', "bit {k}");
+    }
+    assert!(rt; message.len() == 34);
+    assert!(rt; holds4(&message));
+    message.set(33, false);
+    assert!(rt; !holds4(&message));
 }
 
 #[test]

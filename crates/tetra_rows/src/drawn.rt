@@ -8,22 +8,33 @@ use std::alloc::{AllocError, Global};
 use std::process::Abort;
 use std::test::Fail;
 
-/// So many drawn bytes, the last under a mask.
-fn drawn(alloc: Global, pcg: &mut Pcg32, bytes: usize, mask: u8) -> Result<Vec<u8>, AllocError> {
+/// So many drawn bits, packed.
+pub fn drawn(alloc: Global, pcg: &mut Pcg32, bits: usize) -> Result<Vec<u8>, AllocError> {
     let mut packed = Vec::new(alloc);
-    for _ in 0..bytes {
+    for _ in 0..bits.div_ceil(8) {
         packed.push(pcg.next_word().to_be_bytes()[0])?;
     }
     if let Some(last) = packed.last_mut() {
-        *last &= mask;
+        let pad = (8 - bits % 8) % 8;
+        *last = *last >> pad << pad;
     }
     Ok(packed)
 }
 
-fn bit(packed: &[u8], k: usize) -> bool {
+/// Bit `k` of packed bits; 0 behind the last of them.
+pub fn bit(packed: &[u8], k: usize) -> bool {
     packed
         .get(k / 8)
         .is_some_and(|byte| byte >> (7 - k % 8) & 1 == 1)
+}
+
+/// The first bits of packed ones, with zeros behind the last of them.
+pub fn unpacked<const N: usize>(packed: &[u8]) -> [bool; N] {
+    let mut bits = [false; N];
+    for k in 0..N {
+        bits[k] = bit(packed, k);
+    }
+    bits
 }
 
 fn turn(file: &mut [u8], place: usize, bits: u8) {
@@ -33,19 +44,11 @@ fn turn(file: &mut [u8], place: usize, bits: u8) {
 }
 
 fn signalling(packed: &[u8], scrambling: &[bool; 464]) -> [u8; 510] {
-    let mut block = [false; 268];
-    for k in 0..268usize {
-        block[k] = bit(packed, k);
-    }
-    code::burst(&code::signalling(&block, scrambling))
+    code::burst(&code::signalling(&unpacked::<268>(packed), scrambling))
 }
 
 fn data(packed: &[u8], scrambling: &[bool; 464]) -> [u8; 510] {
-    let mut block = [false; 432];
-    for k in 0..432usize {
-        block[k] = bit(packed, k);
-    }
-    code::burst(&code::traffic(&block, scrambling))
+    code::burst(&code::traffic(&unpacked::<432>(packed), scrambling))
 }
 
 #[test]
@@ -62,8 +65,8 @@ fn sent_as_by_sums(rt: HostRuntime) -> Result<(), Fail> {
     ];
     for (words, [mcc, mnc, cc]) in rows {
         let scrambling = code::scrambling(&code::colour(mcc, mnc, cc));
-        let full = drawn(rt.alloc(), &mut pcg, 34, 0xF0)?;
-        let load = drawn(rt.alloc(), &mut pcg, 54, 0xFF)?;
+        let full = drawn(rt.alloc(), &mut pcg, 268)?;
+        let load = drawn(rt.alloc(), &mut pcg, 432)?;
         let mut input = Vec::from_slice(rt.alloc(), b"F")?;
         input.extend_from_slice(&full)?;
         input.push(b'T')?;
@@ -82,7 +85,7 @@ fn sent_as_by_sums(rt: HostRuntime) -> Result<(), Fail> {
 /// A slot of drawn bits, of which each value has a drawn size and one in twelve the wrong sign.
 fn received(alloc: Global, scrambling: &[bool; 464]) -> Result<[u8; 510], AllocError> {
     let mut pcg = Pcg32::new(2, 1);
-    let mut slot = signalling(&drawn(alloc, &mut pcg, 34, 0xF0)?, scrambling);
+    let mut slot = signalling(&drawn(alloc, &mut pcg, 268)?, scrambling);
     for k in 0..510usize {
         let [_, _, sign, size] = pcg.next_word().to_be_bytes();
         let size = size % 128;

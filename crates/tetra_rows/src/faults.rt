@@ -219,7 +219,7 @@ fn flush_fails_behind_another_end(rt: HostRuntime) -> Result<(), Fail> {
         ),
         (
             "encode dir=ul ts1=d72",
-            "51 86*00",
+            "51 15*00 01 70*00",
             0,
             1,
             0,

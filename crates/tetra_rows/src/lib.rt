@@ -9,6 +9,8 @@ mod bytes;
 #[cfg(test)]
 mod calls;
 #[cfg(test)]
+mod carrier;
+#[cfg(test)]
 mod drawn;
 #[cfg(test)]
 mod faults;

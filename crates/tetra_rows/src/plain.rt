@@ -2,3 +2,4 @@
 pub mod code;
 pub mod data;
 pub mod rules;
+pub mod stolen;

@@ -49,8 +49,8 @@ const ENCODED: [Row; 18] = [
     Row {
         words: "encode dir=ul ts1=d72",
         input: "51 86*00",
-        output: "",
-        end: "8 0 not built",
+        output: "34*00 81 81 7F 7F half p half 81 81 7F 7F 14*00",
+        end: "0 1 ",
     },
     Row {
         words: "encode dir=ul ts1=d72 at=68",
@@ -114,7 +114,7 @@ const ENCODED: [Row; 18] = [
     },
 ];
 
-const DECODED: [Row; 17] = [
+const DECODED: [Row; 19] = [
     Row {
         words: "decode dir=ul",
         input: "full",
@@ -142,8 +142,20 @@ const DECODED: [Row; 17] = [
     Row {
         words: "decode dir=ul ts1=d72",
         input: "34*00 81 81 7F 7F key1 p key2 81 81 7F 7F 14*00",
-        output: "",
-        end: "8 0 not built",
+        output: "50 42 00 00 18*00 21*.. 55 00 00 54*00",
+        end: "0 1 ",
+    },
+    Row {
+        words: "decode dir=ul ts1=d48n4",
+        input: "254*00 p 234*00",
+        output: "50 42 00 00 18*00 42 00 00 18*00 4E 00 00 36*00",
+        end: "0 1 ",
+    },
+    Row {
+        words: "decode dir=ul ts1=speech form=audit",
+        input: "254*00 p 234*00",
+        output: "254*00 p 234*00 50 42 00 00 18*00 4640*00 42 00 00 18*00 4640*00 47 00 00 18*00 3040*00",
+        end: "0 1 ",
     },
     Row {
         words: "decode dir=ul ts1=d72",
@@ -219,7 +231,7 @@ const DECODED: [Row; 17] = [
     },
 ];
 
-const AUDITED: [Row; 27] = [
+const AUDITED: [Row; 32] = [
     Row {
         words: "audit dir=ul",
         input: "510*00 46 42 00 00 36*00 9248*00",
@@ -362,7 +374,37 @@ const AUDITED: [Row; 27] = [
         words: "audit dir=ul ts1=d72",
         input: "34*00 81 81 7F 7F key1 p key2 81 81 7F 7F 14*00 54 55 00 00 54*00",
         output: "",
-        end: "8 0 not built",
+        end: "3 0 input: slot 0: truncated",
+    },
+    Row {
+        words: "audit dir=ul ts1=d72",
+        input: "34*00 81 81 7F 7F key1 p key2 81 81 7F 7F 14*00 54 9379*00",
+        output: "'0_refused_kind",
+        end: "1 1 refused: first slot 0, count 1",
+    },
+    Row {
+        words: "audit dir=ul ts1=d72",
+        input: "254*00 p 234*00 50 42 00 00 18*00 4640*00 42 00 00 18*00 4640*00 55 00 00 54*00",
+        output: "'0_ok",
+        end: "0 1 ",
+    },
+    Row {
+        words: "audit dir=ul ts1=d72",
+        input: "254*00 p 234*00 50 42 00 00 18*00 4640*00 47 00 00 18*00 4640*00 55 00 00 54*00",
+        output: "'0_refused_field_1_mark",
+        end: "1 1 refused: first slot 0, count 1",
+    },
+    Row {
+        words: "audit dir=ul ts1=speech",
+        input: "254*00 p 234*00 50 42 00 00 18*00 4640*00 42 00 00 18*00 4640*00 47 00 00 18*00 3040*00",
+        output: "'0_ok",
+        end: "0 1 ",
+    },
+    Row {
+        words: "audit dir=ul ts1=speech",
+        input: "254*00 p 234*00 50 42 00 00 18*00 4640*00 42 00 00 18*00 4640*00 47 00 00 00 00 00 00 20 13*00 3040*00",
+        output: "'0_refused_field_2_bits",
+        end: "1 1 refused: first slot 0, count 1",
     },
     Row {
         words: "audit dir=ul ts1=d72 ts2=d72 ts3=d72",

@@ -1,5 +1,5 @@
 // Runs over sources and sinks in memory.
-use crate::bytes::bytes;
+use crate::bytes::{bytes, is_written};
 use std::alloc::{AllocError, Global};
 use std::process::Abort;
 use std::test::Fail;
@@ -69,12 +69,11 @@ pub fn run_over(
 /// Asserts that a row holds where the source gives pieces of this size.
 pub fn holds(rt: &(impl Abort + AllocGlobal), row: &Row, read_piece: usize) -> Result<(), Fail> {
     let input = bytes(rt.alloc(), row.input)?;
-    let output = bytes(rt.alloc(), row.output)?;
     let ends = Ends { read_piece, ..SURE };
     let ran = run_over(rt.alloc(), row.words, &input, ends, 20_000)?;
     assert_eq!(rt; ran.end.as_str(), row.end, "{} of {}", row.words, row.input);
     assert!(rt;
-        ran.output == output,
+        is_written(rt.alloc(), row.output, &ran.output)?,
         "output of {} of {}",
         row.words,
         row.input

@@ -1,164 +1,102 @@
-// Protected data of four modes on the four timeslots, over 200 slots that cross frame 18, beside the formulas: what is
-// sent, what is read of it, and that its certificates are accepted.
-use crate::plain::{code, data};
+// Traffic on all timeslots, over slots that cross frame 18, beside the formulas: what is sent, what is read of it, and that
+// its certificates are accepted.
+use crate::carrier::{Carrier, Timeslot, Traffic};
 use crate::runs::{SURE, run_over};
-use rand_core::utils::NextWord;
-use rand_pcg::Pcg32;
-use std::alloc::{AllocError, Global};
+use std::process::Abort;
 use std::test::Fail;
 
-const WORDS: &str = "dir=ul mcc=901 mnc=16383 cc=1 ts1=d48n8 ts2=d24n4 ts3=d48n1 ts4=d24n8";
+/// Letters in which blocks over one, four and eight slots come with nothing stolen, with something, and with all.
+const LETTERS: &[u8; 46] = b"TTTTTTTTTPTTTTTTTTQTTTTPQPQTPPQQTQQQQQQQQTTTTP";
 
-/// A timeslot: how many bytes its blocks have, over how many slots they are spread, its blocks so far, and its slot
-/// words, of which those that are still to come have the bits of the blocks so far.
-#[derive(Drop)]
-struct Timeslot {
-    bytes: usize,
-    over: usize,
-    blocks: Vec<Vec<u8>>,
-    words: Vec<[bool; 432]>,
+/// What a run over so many slots writes, into room for so many bytes; asserts that it ends done.
+fn written(
+    rt: &(impl Abort + AllocGlobal),
+    words: &str,
+    input: &[u8],
+    slots: usize,
+    room: usize,
+) -> Result<Vec<u8>, Fail> {
+    let end = format!(in rt.alloc(); "0 {slots} ")?;
+    let ran = run_over(rt.alloc(), words, input, SURE, room)?;
+    assert_eq!(rt; ran.end.as_str(), end.as_str(), "{words}");
+    Ok(ran.output)
 }
 
-impl Timeslot {
-    fn new(alloc: Global, bytes: usize, over: usize) -> Result<Timeslot, AllocError> {
-        Ok(Timeslot {
-            bytes,
-            over,
-            blocks: Vec::new(alloc),
-            words: vec![in alloc; [false; 432]; 60]?,
-        })
-    }
+/// Whether the bytes of a slot are as they are known.
+fn is_sent(known: &[Option<u8>; 510], found: &[u8]) -> bool {
+    found
+        .iter()
+        .zip(known)
+        .all(|(byte, known)| known.is_none_or(|known| known == *byte))
+}
 
-    /// The slot of the next block.
-    fn send(&mut self, block: Vec<u8>, scrambling: &[bool; 464]) -> Result<[u8; 510], AllocError> {
-        let mut bits = [false; 292];
-        for k in 0..288usize {
-            bits[k] = bit(&block, k);
-        }
-        let slot = self.blocks.len();
-        self.blocks.push(block)?;
-        let type3 = data::type3(&bits, self.bytes == 36);
-        data::spread(&mut self.words, slot, self.over, &type3);
-        let word = self.words.get(slot).copied().unwrap_or([false; 432]);
-        Ok(code::burst(&data::sent(&word, scrambling)))
-    }
-
-    /// The reading of the last slot: not yet, or the block that is whole with it.
-    fn read(&self, readings: &mut Vec<u8>) -> Result<(), AllocError> {
-        let whole = self.blocks.len().checked_sub(self.over);
-        match whole.and_then(|first| self.blocks.get(first)) {
-            Some(block) => {
-                readings.extend_from_slice(&[b'T', b'U', 0, 0])?;
-                readings.extend_from_slice(block)?;
-            }
-            None => {
-                readings.extend_from_slice(&[b'T', b'N', 0, 0])?;
-                for _ in 0..self.bytes {
-                    readings.push(0)?;
-                }
-            }
-        }
-        Ok(())
+/// Asserts that slots are as they are known.
+fn are_sent(rt: &impl Abort, carrier: &Carrier, slots: &[u8]) {
+    assert_eq!(rt; slots.len() / 510, carrier.slots.len());
+    for (t, (known, found)) in carrier.slots.iter().zip(slots.chunks(510)).enumerate() {
+        assert!(rt; is_sent(known, found), "slot {t} as sent");
     }
 }
 
-fn bit(packed: &[u8], k: usize) -> bool {
-    packed
-        .get(k / 8)
-        .is_some_and(|byte| byte >> (7 - k % 8) & 1 == 1)
-}
-
-/// So many drawn bytes.
-fn drawn(alloc: Global, pcg: &mut Pcg32, bytes: usize) -> Result<Vec<u8>, AllocError> {
-    let mut packed = Vec::new(alloc);
-    for _ in 0..bytes {
-        packed.push(pcg.next_word().to_be_bytes()[0])?;
+/// Asserts that readings are as they are known.
+fn are_read(rt: &impl Abort, carrier: &Carrier, readings: &[u8]) {
+    let mut rest = readings;
+    for (t, known) in carrier.readings.iter().enumerate() {
+        let behind = known.behind(rest);
+        assert!(rt; behind.is_some(), "slot {t} as read");
+        rest = behind.unwrap_or(rest);
     }
-    Ok(packed)
+    assert!(rt; rest.is_empty());
 }
 
-/// What the 200 slots are written of, what is sent and what is read.
-#[derive(Drop)]
-struct Files {
-    blocks: Vec<u8>,
-    slots: Vec<u8>,
-    readings: Vec<u8>,
-}
-
-impl Files {
-    /// A slot of SCH/F.
-    fn signal(&mut self, packed: &[u8], scrambling: &[bool; 464]) -> Result<(), AllocError> {
-        let mut block = [false; 268];
-        for k in 0..268usize {
-            block[k] = bit(packed, k);
-        }
-        self.blocks.push(b'F')?;
-        self.blocks.extend_from_slice(packed)?;
-        self.slots
-            .extend_from_slice(&code::burst(&code::signalling(&block, scrambling)))?;
-        self.readings.extend_from_slice(&[b'F', b'G', 0, 0])?;
-        let message = code::type2(&block);
-        for i in 0..36usize {
-            let mut byte = 0u8;
-            for k in 0..8usize {
-                byte = byte << 1 | u8::from(message[8 * i + k]);
-            }
-            self.readings.push(byte)?;
-        }
-        Ok(())
-    }
-}
-
-fn made(alloc: Global) -> Result<Files, AllocError> {
-    let scrambling = code::scrambling(&code::colour(901, 16_383, 1));
-    let mut pcg = Pcg32::new(3, 1);
-    let mut timeslots = [
-        Timeslot::new(alloc, 36, 8)?,
-        Timeslot::new(alloc, 18, 4)?,
-        Timeslot::new(alloc, 36, 1)?,
-        Timeslot::new(alloc, 18, 8)?,
-    ];
-    let mut files = Files {
-        blocks: Vec::new(alloc),
-        slots: Vec::new(alloc),
-        readings: Vec::new(alloc),
-    };
-    for t in 0..200usize {
-        if t / 4 % 18 == 17 {
-            let mut block = drawn(alloc, &mut pcg, 34)?;
-            if let Some(last) = block.last_mut() {
-                *last &= 0xF0;
-            }
-            files.signal(&block, &scrambling)?;
-        } else {
-            let timeslot = &mut timeslots[t % 4];
-            let block = drawn(alloc, &mut pcg, timeslot.bytes)?;
-            files.blocks.push(b'T')?;
-            files.blocks.extend_from_slice(&block)?;
-            files
-                .slots
-                .extend_from_slice(&timeslot.send(block, &scrambling)?)?;
-            timeslot.read(&mut files.readings)?;
-        }
-    }
-    Ok(files)
+/// Asserts that a carrier with these modes is sent and read as the formulas say, and that its records agree.
+fn holds(rt: &(impl Abort + AllocGlobal), modes: &str, carrier: &Carrier) -> Result<(), Fail> {
+    let words = format!(in rt.alloc(); "dir=ul mcc=901 mnc=16383 cc=1 {modes}")?;
+    let slots = carrier.slots.len();
+    let command = format!(in rt.alloc(); "encode {words}")?;
+    let sent = written(rt, &command, &carrier.blocks, slots, 204_000)?;
+    are_sent(rt, carrier, &sent);
+    let command = format!(in rt.alloc(); "decode {words}")?;
+    are_read(rt, carrier, &written(rt, &command, &sent, slots, 60_000)?);
+    let command = format!(in rt.alloc(); "decode form=audit {words}")?;
+    let claimed = written(rt, &command, &sent, slots, 8_000_000)?;
+    let command = format!(in rt.alloc(); "audit {words}")?;
+    written(rt, &command, &claimed, slots, 4_000)?;
+    Ok(())
 }
 
 #[test]
 fn spread_over_slots(rt: HostRuntime) -> Result<(), Fail> {
-    let files = made(rt.alloc())?;
-    let words = format!(in rt.alloc(); "encode {WORDS}")?;
-    let sent = run_over(rt.alloc(), &words, &files.blocks, SURE, 102_000)?;
-    assert_eq!(rt; sent.end.as_str(), "0 200 ");
-    assert!(rt; sent.output == files.slots, "what is sent");
-    let words = format!(in rt.alloc(); "decode {WORDS}")?;
-    let read = run_over(rt.alloc(), &words, &files.slots, SURE, 10_000)?;
-    assert_eq!(rt; read.end.as_str(), "0 200 ");
-    assert!(rt; read.output == files.readings, "what is read");
-    let words = format!(in rt.alloc(); "decode form=audit {WORDS}")?;
-    let claimed = run_over(rt.alloc(), &words, &files.slots, SURE, 2_000_000)?;
-    let words = format!(in rt.alloc(); "audit {WORDS}")?;
-    let judged = run_over(rt.alloc(), &words, &claimed.output, SURE, 2_000)?;
-    assert_eq!(rt; judged.end.as_str(), "0 200 ");
-    Ok(())
+    let timeslots = [
+        Timeslot::new(rt.alloc(), Traffic::D48, 8)?,
+        Timeslot::new(rt.alloc(), Traffic::D24, 4)?,
+        Timeslot::new(rt.alloc(), Traffic::D48, 1)?,
+        Timeslot::new(rt.alloc(), Traffic::D24, 8)?,
+    ];
+    let carrier = Carrier::new(rt.alloc(), timeslots, &[b'T'; 46], 200)?;
+    holds(&rt, "ts1=d48n8 ts2=d24n4 ts3=d48n1 ts4=d24n8", &carrier)
+}
+
+#[test]
+fn stolen_from_data_and_speech(rt: HostRuntime) -> Result<(), Fail> {
+    let timeslots = [
+        Timeslot::new(rt.alloc(), Traffic::D72, 1)?,
+        Timeslot::new(rt.alloc(), Traffic::D48, 4)?,
+        Timeslot::new(rt.alloc(), Traffic::D24, 8)?,
+        Timeslot::new(rt.alloc(), Traffic::Speech, 1)?,
+    ];
+    let carrier = Carrier::new(rt.alloc(), timeslots, LETTERS, 400)?;
+    holds(&rt, "ts1=d72 ts2=d48n4 ts3=d24n8 ts4=speech", &carrier)
+}
+
+#[test]
+fn stolen_from_protected_data(rt: HostRuntime) -> Result<(), Fail> {
+    let timeslots = [
+        Timeslot::new(rt.alloc(), Traffic::D48, 8)?,
+        Timeslot::new(rt.alloc(), Traffic::D24, 4)?,
+        Timeslot::new(rt.alloc(), Traffic::D48, 1)?,
+        Timeslot::new(rt.alloc(), Traffic::D24, 1)?,
+    ];
+    let carrier = Carrier::new(rt.alloc(), timeslots, LETTERS, 200)?;
+    holds(&rt, "ts1=d48n8 ts2=d24n4 ts3=d48n1 ts4=d24n1", &carrier)
 }

@@ -1,6 +1,6 @@
 // SCH/F and TCH/7.2 on the uplink: EN 300 392-2 clauses 8.2, 8.3.1 and 9.4.4. The silent positions are
 // this project's own.
-ghost use Rattle.std.specs.Prelude.{◌<◌, ◌*◌, length};
+ghost use Rattle.std.specs.Prelude.{◌<◌, ◌≤◌, ◌*◌, length};
 
 /// The distances of the scrambling recurrence.
 const DISTANCES: [usize; 14] = [1, 2, 4, 5, 7, 8, 10, 11, 12, 16, 22, 23, 26, 32];
@@ -60,30 +60,36 @@ fn rest(n: usize) -> u16 {
     rest
 }
 
-/// The parity of 268 bits: the rest of X^16 M(X) + X^268 L(X), to which L(X) is added, where L(X) is the sum of the
-/// powers below 16.
-pub fn parity(block: &[bool; 268]) -> u16 {
+/// The parity of K bits: the rest of X^16 M(X) + X^K L(X), to which L(X) is added, where L(X) is the sum of the powers
+/// below 16.
+pub fn parity(block: &[bool]) -> u16
+    requires { length block.now ≤ 268 }
+{
+    let count = block.len();
     let mut sum = 0xFFFF;
-    for k in 0..268usize {
+    for k in 0..count {
         if block[k] {
-            sum ^= rest(283 - k);
+            sum ^= rest(count + 15 - k);
         }
     }
-    for power in 268..284usize {
+    for power in count..count + 16 {
         sum ^= rest(power);
     }
     sum
 }
 
-/// The type-2 bits: the block, its parity and four tail bits 0.
-pub fn type2(block: &[bool; 268]) -> [bool; 288] {
+/// The type-2 bits: the block, its parity and four tail bits 0. Behind those of a block of fewer than 268 bits stand zeros.
+pub fn type2(block: &[bool]) -> [bool; 288]
+    requires { length block.now ≤ 268 }
+{
+    let count = block.len();
     let mut bits = [false; 288];
-    for k in 0..268usize {
+    for k in 0..count {
         bits[k] = block[k];
     }
     let parity = parity(block);
     for k in 0..16usize {
-        bits[268 + k] = (parity >> (15 - k)) & 1 == 1;
+        bits[count + k] = (parity >> (15 - k)) & 1 == 1;
     }
     bits
 }

@@ -35,8 +35,8 @@ fn place_24(j: usize) -> usize
         }
 }
 
-/// The type-3 bits of a block of TCH/4.8, or of one of TCH/2.4 with zeros behind it.
-pub fn type3(block: &[bool; 292], is_48: bool) -> [bool; 432] {
+/// The type-3 bits of a block of TCH/4.8 or TCH/2.4, behind which zeros stand.
+pub fn type3(block: &[bool; 432], is_48: bool) -> [bool; 432] {
     let mut bits = [false; 432];
     for j in 0..432usize {
         bits[j] = mother(block, if is_48 { place_48(j) } else { place_24(j) });

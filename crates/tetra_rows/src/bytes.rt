@@ -92,5 +92,8 @@ fn add_keyed(all: &mut Vec<u8>, word: &str, key: &[bool; 464]) -> Result<(), All
 fn add_half(all: &mut Vec<u8>, key: &[bool; 464]) -> Result<(), AllocError> {
     let mut slot = [false; 432];
     stolen::steal(&mut slot, 0, &[false; 124], key);
-    add_bits(all, &slot[..216])
+    for k in 0..216usize {
+        all.push(written(slot[k]))?;
+    }
+    Ok(())
 }

@@ -13,7 +13,7 @@ use std::env;
 use std::env::Env;
 use std::process::ExitCode;
 use tetra_engine::run;
-use tetra_io::{StdSink, StdSource};
+use tetra_io::{ReadAhead, StdSink, StdSource};
 
 /// The words behind the program's name.
 fn collect<R: AllocGlobal + Env>(rt: &R) -> Result<Vec<String>, NoWords> {
@@ -27,7 +27,7 @@ fn collect<R: AllocGlobal + Env>(rt: &R) -> Result<Vec<String>, NoWords> {
 fn main(rt: HostRuntime) -> ExitCode {
     let ending = match collect(&rt) {
         Ok(words) => {
-            let mut src = StdSource::new(rt.stdin());
+            let mut src = ReadAhead::new(StdSource::new(rt.stdin()));
             let mut sink = StdSink::new(rt.stdout());
             Ending::Ran(run(&words, &mut src, &mut sink))
         }

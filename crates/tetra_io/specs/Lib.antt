@@ -5,4 +5,5 @@ pub mod MemorySource
 pub mod MemorySink
 pub mod Sure
 pub mod System
+pub mod Ahead
 pub mod lemmas

@@ -6,6 +6,7 @@
 //! All of this is this project's own.
 #![tactic(auto)]
 
+mod ahead;
 mod calls;
 mod filling;
 mod memory_sink;
@@ -14,6 +15,7 @@ mod streams;
 mod sure;
 mod system;
 
+pub use ahead::ReadAhead;
 pub use filling::{Filled, fill, put_all};
 pub use memory_sink::MemSink;
 pub use memory_source::MemSource;

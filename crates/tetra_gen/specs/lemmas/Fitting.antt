@@ -1,0 +1,1 @@
+-- Blocks that are made fit their slots.

@@ -1,6 +1,6 @@
 // Damage that is made of a number.
-ghost use Rattle.std.specs.Prelude.{◌≡◌, ◌≤◌, ◌+◌, ℕ, length};
-ghost use Rattle.tetra_bits.specs.Soft.{AllSoft};
+ghost use Rattle.std.specs.Prelude.{◌≡◌, ◌<◌, ◌+◌, ℕ, neg_ℤ, slice_set};
+ghost use Rattle.tetra_bits.specs.Soft.{AllSoft, value_at};
 ghost use Rattle.tetra_settings.specs.Validity.{IsValid};
 ghost use Rattle.tetra_gen.specs.Words.{generator, word};
 ghost use Rattle.tetra_gen.specs.Damaged.{turned_by};
@@ -71,7 +71,17 @@ fn turn_signs(words: &mut Pcg32, count: u16, soft: &mut [i16; 510])
         → words.new ≡ generator seed stream (i + count) }
 {
     for _ in 0..count {
-        let named = (draw(words) % 510) as usize;
-        soft[named] = -soft[named];
+        let word = draw(words);
+        turn_sign(soft, (word % 510) as usize);
     }
+}
+
+/// Turns the sign of the value at `place`, which counts from 0.
+fn turn_sign(soft: &mut [i16; 510], place: usize)
+    requires there { place < 510 }
+    requires soft { AllSoft soft.old }
+    ensures value { soft.new ≡ slice_set soft.old place (neg_ℤ (value_at soft.old place)) }
+    ensures soft { AllSoft soft.new }
+{
+    soft[place] = -soft[place];
 }

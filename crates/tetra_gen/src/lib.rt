@@ -2,6 +2,7 @@
 //! damage. Nothing here takes memory.
 #![tactic(auto)]
 
+mod blocks;
 mod damage;
 mod laws;
 mod maker;

@@ -21,7 +21,7 @@ fn bit_of(word: u32, k: usize) -> bool
     requires { k < 32 }
     ensures { result ≡ digit 32 word (1 + k) }
 {
-    word >> (31 - k) & 1 == 1
+    (word >> (31 - k)) % 2 == 1
 }
 
 /// The next field of so many bits, at most 432: of each word the most significant bit first, and what the last word has

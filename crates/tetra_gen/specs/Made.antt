@@ -3,7 +3,7 @@
 -- A slot draws a word for its letter, then on the downlink its access field, then for a letter C a word for its mask,
 -- and then its fields in their order.
 use Prim.Native.Nat.{zero, suc}
-use Rattle.std.specs.Prelude.{ℕ, ◌≡◌, ◌+◌, ◌%◌, Bool, true, false, List, length, slice_index, slice_index_or, Some, None, IsTrue}
+use Rattle.std.specs.Prelude.{ℕ, ◌≡◌, ◌+◌, ◌%◌, Bool, false, List, length, slice_index, slice_index_or, Some, None}
 use Rattle.std.specs.declared.option.Option.{Option}
 use Rattle.tetra_bits.specs.Digits.{digit}
 use Rattle.tetra_bits.specs.Sums.{sum_below}

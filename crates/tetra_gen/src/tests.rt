@@ -1,4 +1,7 @@
 // What no clause says: what is made of the words of the generator, beside an independent rendering of it.
+ghost use Rattle.std.specs.Prelude.{IfOk};
+ghost use Rattle.tetra_settings.specs.Validity.{IsValid};
+
 use crate::{Damage, Maker};
 use std::alloc::{AllocError, Global};
 use std::process::Abort;
@@ -6,7 +9,9 @@ use std::test::Fail;
 use tetra_bits::{Bits, pack};
 use tetra_settings::{Body, Settings, read_words};
 
-fn settings(rt: &impl Abort, alloc: Global, line: &str) -> Result<Settings, AllocError> {
+fn settings(rt: &impl Abort, alloc: Global, line: &str) -> Result<Settings, AllocError>
+    ensures { IfOk result (λ settings. IsValid settings) }
+{
     let mut all = Vec::new(alloc);
     for word in line.split(' ') {
         all.push(String::from_str(alloc, word)?)?;
@@ -74,36 +79,36 @@ fn synchronisation_on_the_downlink(rt: HostRuntime) -> Result<(), Fail> {
 #[test]
 fn control_bursts(rt: HostRuntime) -> Result<(), Fail> {
     let mut maker = Maker::new(&settings(&rt, rt.alloc(), "gen dir=ul ts1=cb ts2=cb")?);
-    for (sends_first, bytes) in [
-        (
-            false,
-            [
-                0x35, 0x76, 0x43, 0xf4, 0xf8, 0xe8, 0x4c, 0x31, 0xaa, 0xc1, 0xca, 0x80,
-            ],
-        ),
-        (
-            true,
-            [
-                0x3e, 0x18, 0xcb, 0x9c, 0x53, 0x7b, 0x33, 0x9d, 0xe9, 0x81, 0x42, 0x50,
-            ],
-        ),
-    ] {
-        let (sent, silent) = match maker.slot().body {
-            Body::Control { first, second } => {
-                if sends_first {
-                    (first, second)
-                } else {
-                    (second, first)
-                }
-            }
-            _ => panic!(rt; "not C"),
-        };
-        assert!(rt; silent.is_none());
-        let Some(block) = sent else {
-            panic!(rt; "silent");
-        };
-        assert_packed(&rt, &block, 92, &bytes);
-    }
+    let Body::Control {
+        first: None,
+        second: Some(block),
+    } = maker.slot().body
+    else {
+        panic!(rt; "not the second subslot alone");
+    };
+    assert_packed(
+        &rt,
+        &block,
+        92,
+        &[
+            0x35, 0x76, 0x43, 0xf4, 0xf8, 0xe8, 0x4c, 0x31, 0xaa, 0xc1, 0xca, 0x80,
+        ],
+    );
+    let Body::Control {
+        first: Some(block),
+        second: None,
+    } = maker.slot().body
+    else {
+        panic!(rt; "not the first subslot alone");
+    };
+    assert_packed(
+        &rt,
+        &block,
+        92,
+        &[
+            0x3e, 0x18, 0xcb, 0x9c, 0x53, 0x7b, 0x33, 0x9d, 0xe9, 0x81, 0x42, 0x50,
+        ],
+    );
     Ok(())
 }
 

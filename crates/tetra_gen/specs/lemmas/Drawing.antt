@@ -1,12 +1,12 @@
 -- Drawing word by word and bit by bit.
 use Prim.Native.Nat.{zero, suc}
-use Rattle.std.proofs.Common.{◌≡◌, ℕ, ◌+◌, ◌-◌, ◌*◌, ◌/◌, ◌%◌, ◌^◌, ◌<◌, ◌≤◌, Bool, List, [], ◌∷◌, ◌++◌, length, false, nat_eq, bit_or, bit_xor, refl, sym, ap, ◌∙◌, arith, add-one, add-zero, mod-lt, pow_pos}
-use Rattle.std.proofs.lemmas.Nat.{or_lt, shr_le, shr_below, shr-shr}
+use Rattle.std.proofs.Common.{◌≡◌, ℕ, ◌+◌, ◌-◌, ◌*◌, ◌/◌, ◌%◌, ◌^◌, ◌<◌, ◌≤◌, Bool, List, [], ◌∷◌, ◌++◌, length, false, nat_eq, bit_xor, refl, ap, ◌∙◌, arith, add-one, add-zero, mod-lt, pow_pos}
+use Rattle.std.proofs.lemmas.Nat.{or_lt, shr_le, shr-shr}
 use Rattle.rand_pcg.specs.Lcg.{Lcg, next, next_state, state_after, started, increment_of}
 use Rattle.rand_pcg.specs.Pcg.{multiplier_64, pcg32}
 use Rattle.tetra_bits.specs.Numbered.{numbered, numbered_push, length-numbered, numbered_same}
 use Rattle.tetra_bits.specs.Digits.{digit, digits}
-use Rattle.tetra_gen.specs.Words.{generator, word, words_for, field_bit, field, leading, AccessIsField}
+use Rattle.tetra_gen.specs.Words.{generator, word, field_bit, field, leading, AccessIsField}
 
 -- the last of n + 1 steps
 state_last : (w m p n s : ℕ) → next_state w m p (state_after w m p n s) ≡ state_after w m p (suc n) s

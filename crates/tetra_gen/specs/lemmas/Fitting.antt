@@ -1,10 +1,10 @@
 -- Blocks that are made fit their slots.
-use Rattle.std.proofs.Common.{◌≡◌, ℕ, ◌+◌, ◌-◌, ◌*◌, ◌/◌, ◌%◌, ◌^◌, ◌<◌, ◌≤◌, Bool, true, false, List, [], ◌∷◌, length, nat_eq, if◌then◌else◌, refl, sym, ap, ◌∙◌, arith}
-use Rattle.std.specs.Prelude.{IsTrue, All, slice_index, slice_index_or}
+use Rattle.std.proofs.Common.{◌≡◌, ℕ, ◌+◌, ◌-◌, ◌%◌, ◌^◌, ◌<◌, Bool, true, false, List, [], ◌∷◌, length, nat_eq, if◌then◌else◌, refl, arith}
+use Rattle.std.specs.Prelude.{IsTrue, slice_index, slice_index_or}
 use Rattle.std.proofs.lemmas.List.Elements.{All-get_or, All-from_recursion}
 use Rattle.std.proofs.lemmas.Nat.{shr_below}
-use Rattle.tetra_settings.specs.Slots.{use_of, use_in, traffic_in, mode_of, frame_of, timeslot_of, HasUse, is_allowed, letters_of}
-use Rattle.tetra_settings.specs.Blocks.{letter_of, field_bits, body_of, HasLengths, FitsAccess, Fits}
+use Rattle.tetra_settings.specs.Slots.{use_of, use_in, mode_of, frame_of, timeslot_of, HasUse, is_allowed, letters_of}
+use Rattle.tetra_settings.specs.Blocks.{letter_of, field_bits, HasLengths, FitsAccess}
 use Rattle.tetra_settings.specs.Validity.{HasMode, IsValid}
 use Rattle.tetra_settings.specs.declared.types.Dir.{Dir}
 use Rattle.tetra_settings.specs.declared.types.Dir.TheVariants.{Dl, Ul}
@@ -15,9 +15,8 @@ use Rattle.tetra_settings.specs.declared.slots.Letter.{Letter}
 use Rattle.tetra_settings.specs.declared.slots.Letter.TheVariants.{F, H, S, T, P, Q, C}
 use Rattle.tetra_settings.specs.declared.slots.SlotUse.{SlotUse}
 use Rattle.tetra_settings.specs.declared.slots.SlotUse.TheVariants.{Signalling, Control, Traffic}
-use Rattle.tetra_settings.specs.declared.blocks.Body.{Body}
-use Rattle.tetra_gen.specs.Words.{word, field, leading}
-use Rattle.tetra_gen.specs.Made.{made_word, letter_drawn, letter_made, access_made, field_begin, nth_field, body_drawn, head_made, first_word, made, MadeFit}
+use Rattle.tetra_gen.specs.Words.{leading}
+use Rattle.tetra_gen.specs.Made.{made_word, letter_drawn, access_made, field_begin, nth_field, body_drawn, head_made, first_word, made, MadeFit}
 use Rattle.tetra_gen.specs.lemmas.Drawing.{word_small, length-field}
 
 in_traffic : (last : Bool) → HasUse Dl (if last then Signalling else Traffic)

@@ -1,10 +1,10 @@
 -- Turning a sign at a time.
-use Rattle.std.proofs.Common.{◌≡◌, ℕ, ◌+◌, ◌-◌, ◌*◌, ◌%◌, ◌<◌, ◌≤◌, ◌≢◌, ◌⊎◌, true, false, List, length, get_or, nat_eq, refl, sym, ap, ◌∙◌, arith, add-one, inl, inr, zero, suc}
-use Rattle.std.specs.Prelude.{ℤ, pos, neg_ℤ, slice_set, All}
+use Rattle.std.proofs.Common.{◌≡◌, ℕ, ◌+◌, ◌-◌, ◌%◌, ◌<◌, ◌≢◌, ◌⊎◌, true, false, List, length, get_or, nat_eq, refl, sym, ap, ◌∙◌, arith, add-one, inl, inr, zero, suc}
+use Rattle.std.specs.Prelude.{ℤ, pos, neg_ℤ, slice_set}
 use Rattle.std.proofs.Math.IntN.{neg_ℤ-neg_ℤ}
 use Rattle.std.proofs.lemmas.Bool.Decides.{eqb_tells}
 use Rattle.std.proofs.lemmas.List.{get_or-set_same, get_or-set_other, length-set}
-use Rattle.tetra_bits.specs.Numbered.{numbered, length-numbered, get_or-numbered, is_numbered, all_numbered}
+use Rattle.tetra_bits.specs.Numbered.{length-numbered, get_or-numbered, is_numbered, all_numbered}
 use Rattle.tetra_bits.specs.Soft.{IsSoft, AllSoft, value_at}
 use Rattle.tetra_bits.specs.Sums.{sum_below, bit_number}
 use Rattle.tetra_bits.specs.lemmas.Within.{neg_within, soft_at}

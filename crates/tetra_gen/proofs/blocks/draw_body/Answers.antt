@@ -1,4 +1,4 @@
-use Rattle.std.proofs.Common.{◌≡◌, ℕ, ◌+◌, List, ap, ◌∙◌}
+use Rattle.std.proofs.Common.{◌≡◌, ℕ, List, ap, ◌∙◌}
 use Rattle.tetra_settings.specs.Blocks.{body_of}
 use Rattle.tetra_gen.specs.Words.{generator, word}
 use Rattle.tetra_gen.specs.Made.{field_begin, nth_field, body_drawn}

@@ -1,7 +1,7 @@
-use Rattle.std.proofs.Common.{◌≡◌, ℕ, ◌+◌, ◌∙◌, refl, sym, subst}
+use Rattle.std.proofs.Common.{◌+◌, refl, sym, subst}
 use Rattle.tetra_settings.specs.Blocks.{Fits}
 use Rattle.tetra_settings.specs.Validity.{IsValid}
-use Rattle.tetra_gen.specs.Made.{MakerStands, first_word, made, access_words, mask_words}
+use Rattle.tetra_gen.specs.Made.{first_word, access_words, mask_words}
 use Rattle.tetra_gen.specs.lemmas.Fitting.{made_fits}
 use Rattle.tetra_gen.proofs.Making.{made_is, words_are}
 use Rattle.tetra_gen.proofs.maker.Maker.slot.Goals as goal

@@ -11,4 +11,5 @@ pub mod ToGo
 pub mod lemmas
 pub mod Labels
 pub mod Butterflies
+pub mod Quarter
 pub mod Steps

@@ -23,6 +23,7 @@ pub mod Outputs
 pub mod Lanes
 pub mod Masked
 pub mod Butterflies
+pub mod Quarter
 pub mod Stepping
 pub mod Marks
 pub mod RowEntries

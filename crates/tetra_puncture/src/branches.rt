@@ -4,13 +4,14 @@ ghost use Rattle.tetra_bits.specs.Cost.{cost};
 ghost use Rattle.tetra_bits.specs.Order.{bit_at};
 ghost use Rattle.tetra_bits.specs.Soft.{IsSoft, value_at};
 ghost use Rattle.tetra_puncture.specs.Labels.{number_of, label_at, HasLabels, AreLabels, IsStep, AreCosts};
-ghost use Rattle.tetra_puncture.specs.Butterflies.{HasMasks, IsPaired, AreLaneCosts};
+ghost use Rattle.tetra_puncture.specs.Butterflies.{HasMasks, IsPaired, AreLaneCosts, masked_cost, turned_cost};
 ghost use Rattle.tetra_puncture.specs.Trellis.{step_cost};
 
 use crate::butterflies::masked_costs;
 use crate::lanes::{even, odd};
 use crate::masks::masks_of;
 use crate::plan::Plan;
+use crate::quarter::{is_quarter, quarter_costs};
 use std::simd::prelude::*;
 use tetra_bits::{Wide, cost};
 use tetra_mother::{Mother, outs};
@@ -183,6 +184,23 @@ pub struct LaneCosts {
     pub odd_one: u32x8,
 }
 
+/// The costs of four values as the outputs of each lane, and as the complements of those outputs. Sums of pairs serve the
+/// code of rate 1/4, masks any code.
+#[inline(always)]
+fn paired_costs<M: Mother>(labels: &Labels, values: [i16; 4]) -> (u32x8, u32x8)
+    requires masks { HasMasks M.taps M.OUTS labels.now }
+    requires soft { (i : ℕ) → IsSoft (value_at values i) }
+    ensures long { (length result.0 ≡ 8) × (length result.1 ≡ 8) }
+    ensures cost { (i : ℕ) → i < 8 → slice_index result.0 i ≡ masked_cost labels.now.masks values i }
+    ensures turned { (i : ℕ) → i < 8 → slice_index result.1 i ≡ turned_cost labels.now.masks values i }
+{
+    if is_quarter::<M>() {
+        quarter_costs(values)
+    } else {
+        masked_costs(&labels.masks, values)
+    }
+}
+
 /// The same as `branch_costs` by lanes. Of a code that is paired those with bit 0 from the even states are enough.
 #[inline(always)]
 pub fn lane_costs<P: Plan, const PAIRED: bool>(wide: &Wide, labels: &Labels, t: usize) -> LaneCosts
@@ -195,7 +213,7 @@ pub fn lane_costs<P: Plan, const PAIRED: bool>(wide: &Wide, labels: &Labels, t: 
     ensures { AreLaneCosts P.plan wide.now t result }
 {
     if PAIRED {
-        let (cost, turned) = masked_costs(&labels.masks, step_values::<P::Code>(wide, t));
+        let (cost, turned) = paired_costs::<P::Code>(labels, step_values::<P::Code>(wide, t));
         LaneCosts {
             even_zero: cost,
             even_one: turned,

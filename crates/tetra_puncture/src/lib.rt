@@ -12,6 +12,7 @@ mod laws;
 mod masks;
 mod outputs;
 mod plan;
+mod quarter;
 mod rule;
 mod sending;
 mod speech;

@@ -3,6 +3,7 @@ ghost use Rattle.std.specs.Prelude.{◌≡◌, ◌<◌, ◌≤◌, ◌+◌, ◌*
 ghost use Rattle.tetra_bits.specs.Cost.{cost};
 ghost use Rattle.tetra_bits.specs.Order.{bit_at};
 ghost use Rattle.tetra_bits.specs.Soft.{IsSoft, value_at};
+ghost use Rattle.tetra_mother.specs.Generators.{quarter};
 ghost use Rattle.tetra_puncture.specs.Labels.{number_of, label_at, HasLabels, AreLabels, IsStep, AreCosts};
 ghost use Rattle.tetra_puncture.specs.Butterflies.{HasMasks, IsPaired, AreLaneCosts, masked_cost, turned_cost};
 ghost use Rattle.tetra_puncture.specs.Trellis.{step_cost};
@@ -28,6 +29,36 @@ pub struct Labels {
 impl Labels {
     /// The labels of all branches.
     pub fn of<M: Mother>() -> Labels
+        ensures labels { HasLabels M.taps M.OUTS result }
+        ensures masks { HasMasks M.taps M.OUTS result }
+    {
+        if is_quarter::<M>() {
+            Labels::of_quarter()
+        } else {
+            Labels::of_any::<M>()
+        }
+    }
+
+    /// Those of the code of rate 1/4, written out.
+    fn of_quarter() -> Labels
+        ensures labels { HasLabels quarter 4 result }
+        ensures masks { HasMasks quarter 4 result }
+    {
+        const ALL: u32 = u32::MAX;
+        Labels {
+            zero: [0, 15, 5, 10, 6, 9, 3, 12, 11, 4, 14, 1, 13, 2, 8, 7],
+            one: [15, 0, 10, 5, 9, 6, 12, 3, 4, 11, 1, 14, 2, 13, 7, 8],
+            masks: [
+                [0, 0, 0, 0, ALL, ALL, ALL, ALL],
+                [0, ALL, ALL, 0, 0, ALL, ALL, 0],
+                [0, 0, ALL, ALL, ALL, ALL, 0, 0],
+                [0, ALL, 0, ALL, ALL, 0, ALL, 0],
+            ],
+        }
+    }
+
+    /// Those of any code, from its outputs.
+    fn of_any<M: Mother>() -> Labels
         ensures labels { HasLabels M.taps M.OUTS result }
         ensures masks { HasMasks M.taps M.OUTS result }
     {

@@ -1,12 +1,13 @@
 -- The code of rate 1/4 by lanes.
 use Prim.Native.Nat.{zero, suc}
-use Rattle.std.proofs.Common.{◌≡◌, ℕ, ◌+◌, ◌*◌, ◌<◌, Bool, true, false, nat_lt, List, [], ◌∷◌, get_or, ℤ, pos, arith, refl, ◌∙◌}
+use Rattle.std.proofs.Common.{◌≡◌, ℕ, ◌+◌, ◌*◌, ◌<◌, Bool, true, false, nat_lt, List, [], ◌∷◌, get_or, ℤ, pos, arith, refl, sym, ap, ◌∙◌}
 use Rattle.std.proofs.lemmas.Bool.{lt-ltb}
+use Rattle.std.proofs.lemmas.List.FromFn.{get_or-map-range_with_len}
 use Rattle.tetra_bits.specs.Cost.{cost}
 use Rattle.tetra_mother.specs.Generators.{quarter}
 use Rattle.tetra_mother.specs.Mother.{edge}
-use Rattle.tetra_puncture.specs.Butterflies.{HasMasks, masked_cost, turned_cost}
-use Rattle.tetra_puncture.specs.Labels.{branch_output}
+use Rattle.tetra_puncture.specs.Butterflies.{HasMasks, mask_of, masked_cost, turned_cost}
+use Rattle.tetra_puncture.specs.Labels.{number_of, branch_output, branch_label, label_at, HasLabels}
 use Rattle.tetra_puncture.specs.Quarter.{IsQuarter, quarter_cost, quarter_turned}
 use Rattle.tetra_puncture.specs.declared.branches.Labels.{Labels}
 use Rattle.tetra_puncture.specs.lemmas.Butterflies.{masked_is}
@@ -45,6 +46,45 @@ module _ (taps : ℕ → ℕ → Bool) (outs : ℕ) (is : IsQuarter taps outs) w
           masked_is taps outs labels has 3 i (omega arith) h ∙ output_is (2 * i) false 3 (omega arith),
         )
         refl
+
+-- the labels that are written out
+quarter_itself : IsQuarter quarter 4
+quarter_itself = record { four = refl; terms = λ i j first last below. refl }
+
+module _ (labels : Labels) where
+  pub labels_written : labels.zero ≡ 0 ∷ 15 ∷ 5 ∷ 10 ∷ 6 ∷ 9 ∷ 3 ∷ 12 ∷ 11 ∷ 4 ∷ 14 ∷ 1 ∷ 13 ∷ 2 ∷ 8 ∷ 7 ∷ [] →
+      labels.one ≡ 15 ∷ 0 ∷ 10 ∷ 5 ∷ 9 ∷ 6 ∷ 12 ∷ 3 ∷ 4 ∷ 11 ∷ 1 ∷ 14 ∷ 2 ∷ 13 ∷ 7 ∷ 8 ∷ [] → HasLabels quarter 4 labels
+  unfolding HasLabels label_at branch_label branch_output edge number_of
+  labels_written zero_is one_is s false h = ap (λ xs. get_or xs s 0) zero_is ∙ get_or-map-range_with_len (λ k. branch_label quarter 4 k false) 0 16 s s 0 h (omega arith)
+  labels_written zero_is one_is s true h = ap (λ xs. get_or xs s 0) one_is ∙ get_or-map-range_with_len (λ k. branch_label quarter 4 k true) 0 16 s s 0 h (omega arith)
+
+  pub masks_written : labels.masks ≡ (0 ∷ 0 ∷ 0 ∷ 0 ∷ 4294967295 ∷ 4294967295 ∷ 4294967295 ∷ 4294967295 ∷ [])
+      ∷ (0 ∷ 4294967295 ∷ 4294967295 ∷ 0 ∷ 0 ∷ 4294967295 ∷ 4294967295 ∷ 0 ∷ [])
+      ∷ (0 ∷ 0 ∷ 4294967295 ∷ 4294967295 ∷ 4294967295 ∷ 4294967295 ∷ 0 ∷ 0 ∷ [])
+      ∷ (0 ∷ 4294967295 ∷ 0 ∷ 4294967295 ∷ 4294967295 ∷ 0 ∷ 4294967295 ∷ 0 ∷ []) ∷ [] → HasMasks quarter 4 labels
+  unfolding HasMasks mask_of branch_output edge
+  masks_written is zero i hj hi = ap (λ xs. get_or (get_or xs 0 []) i 0) is ∙ get_or-map-range_with_len (λ k. mask_of (branch_output quarter 4 (2 * k) false 0)) 0 8 i i 0 hi (omega arith)
+  masks_written is (suc zero) i hj hi = ap (λ xs. get_or (get_or xs 1 []) i 0) is ∙ get_or-map-range_with_len (λ k. mask_of (branch_output quarter 4 (2 * k) false 1)) 0 8 i i 0 hi (omega arith)
+  masks_written is (suc (suc zero)) i hj hi = ap (λ xs. get_or (get_or xs 2 []) i 0) is ∙ get_or-map-range_with_len (λ k. mask_of (branch_output quarter 4 (2 * k) false 2)) 0 8 i i 0 hi (omega arith)
+  masks_written is (suc (suc (suc zero))) i hj hi = ap (λ xs. get_or (get_or xs 3 []) i 0) is ∙ get_or-map-range_with_len (λ k. mask_of (branch_output quarter 4 (2 * k) false 3)) 0 8 i i 0 hi (omega arith)
+  masks_written is (suc (suc (suc (suc j)))) i hj hi = absurd (omega arith)
+
+-- they are those of each code with the same terms
+module _ (taps : ℕ → ℕ → Bool) (outs : ℕ) (is : IsQuarter taps outs) where
+  output_same : (s : ℕ) (b : Bool) (j : ℕ) → j < 4 → branch_output quarter 4 s b j ≡ branch_output taps outs s b j
+  output_same s b j h = output_is quarter 4 quarter_itself s b j h ∙ sym (output_is taps outs is s b j h)
+
+  label_same : (s : ℕ) (b : Bool) → branch_label quarter 4 s b ≡ branch_label taps outs s b
+  unfolding branch_label
+  label_same s b = rw (output_same s b 0 (omega arith), output_same s b 1 (omega arith), output_same s b 2 (omega arith), output_same s b 3 (omega arith)) refl
+
+  pub quarter_labels : (labels : Labels) → HasLabels quarter 4 labels → HasLabels taps outs labels
+  unfolding HasLabels
+  quarter_labels labels has s b h = has s b h ∙ label_same s b
+
+  pub quarter_masks : (labels : Labels) → HasMasks quarter 4 labels → HasMasks taps outs labels
+  unfolding HasMasks
+  quarter_masks labels has j i hj hi = has j i hj hi ∙ ap mask_of (output_same (2 * i) false j hj)
 
 -- the costs of two values as pairs of bits: the first two values, and the last two
 pub record PairCosts (values : List ℤ) (p q r s t u v w : ℕ) : Type 0 where

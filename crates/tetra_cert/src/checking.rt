@@ -14,7 +14,7 @@ use crate::tables::all_hold;
 use crate::verdict::Verdict;
 use tetra_bits::{Bits, Potentials, Soft, Wide};
 use tetra_mother::next;
-use tetra_puncture::{Labels, Plan, spread};
+use tetra_puncture::{Labels, Plan, spread_into};
 
 /// Whether `potentials`, whoever made them, show that `message` is the first-least message over the
 /// received values `soft`. There are `SENT` values, `STEPS - 4` bits and `STEPS + 1` rows. The sums
@@ -34,7 +34,9 @@ pub fn check<P: Plan>(soft: &Soft, message: &Bits, potentials: &Potentials) -> V
     ensures complete { IsAccepted P.plan (spread_values P.plan soft.now) message.now potentials.now
         → result ≡ Verdict.Accepted }
 {
-    let wide = spread::<P>(soft);
+    let mut wide = Wide::new();
+    spread_into::<P>(soft, &mut wide);
+    let _places = wide.len();
     let labels = Labels::of::<P::Code>();
     if all_hold::<P>(&wide, &labels, message, potentials) {
         return Verdict::Accepted;

@@ -10,8 +10,8 @@ ghost use Rattle.tetra_puncture.specs.Trellis.{AllCostsToGo};
 
 use crate::rows::fill;
 use crate::tracing::trace;
-use tetra_bits::{Bits, Potentials, Soft};
-use tetra_puncture::{Labels, Plan, spread};
+use tetra_bits::{Bits, Potentials, Soft, Wide};
+use tetra_puncture::{Labels, Plan, spread_into};
 
 /// What a received block is solved to. This project's own.
 #[derive(Drop)]
@@ -41,7 +41,9 @@ pub fn solve_into<P: Plan>(soft: &Soft, message: &mut Bits, potentials: &mut Pot
     ensures metric_within { (top : ℕ) → AllWithin top soft.now → result ≤ top * P.SENT }
     ensures accepted { IsAccepted P.plan (spread_values P.plan soft.now) message.new potentials.new }
 {
-    let wide = spread::<P>(soft);
+    let mut wide = Wide::new();
+    spread_into::<P>(soft, &mut wide);
+    let _places = wide.len();
     let labels = Labels::of::<P::Code>();
     let mut marks = [0; 288];
     fill::<P>(&wide, &labels, potentials, &mut marks);

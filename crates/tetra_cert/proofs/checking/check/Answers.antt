@@ -17,7 +17,7 @@ pub loop-t-init : goal.loop-t-init
 loop-t-init g c = record {
   small = omega arith;
   path_is = sym (state_passed_first c.args.message.now);
-  checked = checked_none g.P.Plan.plan c.spread-wide.result c.args.message.now c.args.potentials.now;
+  checked = checked_none g.P.Plan.plan c.spread_into.new.wide c.args.message.now c.args.potentials.now;
 }
 
 pub loop-t-preserved : goal.loop-t-preserved
@@ -26,13 +26,13 @@ loop-t-preserved g c = record {
   small = c.next-path.ensures.small;
   path_is = c.next-path.ensures.value ∙ (ap (next_state c.loop-t.path) c.taken.ensures
       ∙ (ap (λ s. next_state s (bit_taken c.args.message.now c.loop-t.t)) c.loop-t.invariant.path_is ∙ sym (state_passed_more c.args.message.now c.loop-t.t)));
-  checked = checked_more g.P.Plan.plan c.spread-wide.result c.args.message.now c.args.potentials.now c.loop-t.t c.loop-t.invariant.checked (record { earlier = c.in_default.ensures });
+  checked = checked_more g.P.Plan.plan c.spread_into.new.wide c.args.message.now c.args.potentials.now c.loop-t.t c.loop-t.invariant.checked (record { earlier = c.in_default.ensures });
 }
 
 pub returns-in-Some-clause-right : goal.returns-in-Some-clause-right
 unfolding IsRight
 returns-in-Some-clause-right g c =
-    refused g.P.Plan.plan c.args.soft.now c.spread-wide.result c.args.message.now c.args.potentials.now c.spread-wide.ensures.values
+    refused g.P.Plan.plan c.args.soft.now c.spread_into.new.wide c.args.message.now c.args.potentials.now c.spread_into.ensures.values
     c.loop-t.t c.in-Some.field-0 (omega (arith, g.met.P.Plan.same_steps, c.STEPS-t-end.ensures)) c.loop-t.invariant.checked c.in-Some.ensures
 
 pub returns-in-Some-clause-value : goal.returns-in-Some-clause-value
@@ -40,7 +40,7 @@ returns-in-Some-clause-value g c = right_is_verdict g.P.Plan.plan c.args.soft.no
 
 pub returns-in-Some-clause-complete : goal.returns-in-Some-clause-complete
 returns-in-Some-clause-complete g c = λ ok.
-    absurd (not_accepted g.P.Plan.plan c.args.soft.now c.spread-wide.result c.args.message.now c.args.potentials.now c.spread-wide.ensures.values
+    absurd (not_accepted g.P.Plan.plan c.args.soft.now c.spread_into.new.wide c.args.message.now c.args.potentials.now c.spread_into.ensures.values
     c.loop-t.t c.in-Some.field-0 (omega (arith, g.met.P.Plan.same_steps, c.STEPS-t-end.ensures)) c.in-Some.ensures ok)
 
 pub returns-in-Some-clause-sound : goal.returns-in-Some-clause-sound
@@ -50,7 +50,7 @@ returns-in-Some-clause-sound g c = tt
 pub returns-clause-right : goal.returns-clause-right
 unfolding IsRight
 returns-clause-right g c =
-    accepted g.P.Plan.plan c.args.soft.now c.spread-wide.result c.args.message.now c.args.potentials.now c.spread-wide.ensures.values
+    accepted g.P.Plan.plan c.args.soft.now c.spread_into.new.wide c.args.message.now c.args.potentials.now c.spread_into.ensures.values
     c.loop-t.t (omega (arith, g.met.P.Plan.same_steps, c.STEPS-t-end.ensures)) c.loop-t.invariant.checked
 
 pub returns-clause-sound : goal.returns-clause-sound
@@ -64,7 +64,7 @@ returns-clause-sound g c =
       message = c.requires.message;
       values = omega (arith, law.same_sent, c.requires.values);
     } in
-    certified g.P.Plan.plan c.args.soft.now c.spread-wide.result c.args.message.now c.args.potentials.now c.spread-wide.ensures.values
+    certified g.P.Plan.plan c.args.soft.now c.spread_into.new.wide c.args.message.now c.args.potentials.now c.spread_into.ensures.values
     c.loop-t.t fits (omega (arith, law.same_steps, c.STEPS-t-end.ensures)) c.loop-t.invariant.checked
 
 pub returns-clause-value : goal.returns-clause-value
@@ -86,7 +86,7 @@ returns-then-all_hold g c =
       values = omega (arith, law.same_sent, c.requires.values);
     } in
     let ok : IsAccepted p (spread_values p r) m table =
-    subst (λ w. IsAccepted p w m table) c.spread-wide.ensures.values (c.if-all_hold.ensures refl) in
+    subst (λ w. IsAccepted p w m table) c.spread_into.ensures.values (c.if-all_hold.ensures refl) in
     record {
       right = ok;
       value = right_is_verdict p r m table Accepted ok;

@@ -21,9 +21,9 @@ returns g c =
       values = c.requires.size ∙ sym law.same_sent;
     } in
     let all : IsSolved p r m table = solved p r m table fits c.fill.ensures.rows c.rows-rows.ensures.sixteen
-    (subst (λ wide. IsBackward p wide table) c.spread-wide.ensures.values c.fill.ensures.backward)
-    (subst (λ wide. IsTraced p wide table m) c.spread-wide.ensures.values
-    (marked_is_traced p c.spread-wide.result table c.fill.new.marks m c.trace.ensures.message c.fill.ensures.marks c.trace.ensures.marked)) in
+    (subst (λ wide. IsBackward p wide table) c.spread_into.ensures.values c.fill.ensures.backward)
+    (subst (λ wide. IsTraced p wide table m) c.spread_into.ensures.values
+    (marked_is_traced p c.spread_into.new.wide table c.fill.new.marks m c.trace.ensures.message c.fill.ensures.marks c.trace.ensures.marked)) in
     record {
       message = all.message;
       size = c.trace.ensures.message ∙ law.same_steps;

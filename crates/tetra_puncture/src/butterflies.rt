@@ -9,7 +9,7 @@ use std::simd::prelude::*;
 /// A soft value, raised by 2^15.
 #[tactic(auto, unfolding(tetra_bits::specs::Cost::cost))]
 #[inline(always)]
-pub(crate) fn raised(value: i16) -> u32
+fn raised(value: i16) -> u32
     requires { IsSoft value }
     ensures zero { 32768 - result ≡ cost value false }
     ensures one { result - 32768 ≡ cost value true }
@@ -20,7 +20,7 @@ pub(crate) fn raised(value: i16) -> u32
 
 /// The costs of four raised values as bit 0 and as bit 1, and the differences of both modulo 2^32.
 #[inline(always)]
-pub(crate) fn split(a: u32, b: u32, c: u32, d: u32) -> ([u32; 4], [u32; 4], [u32; 4])
+fn split(a: u32, b: u32, c: u32, d: u32) -> ([u32; 4], [u32; 4], [u32; 4])
     ensures zero { result.0 ≡ (32768 - a) ∷ (32768 - b) ∷ (32768 - c) ∷ (32768 - d) ∷ [] }
     ensures one { result.1 ≡ (a - 32768) ∷ (b - 32768) ∷ (c - 32768) ∷ (d - 32768) ∷ [] }
     ensures difference { result.2 ≡ ((a + 4294934528) % 2 ^ 32) ∷ ((b + 4294934528) % 2 ^ 32)

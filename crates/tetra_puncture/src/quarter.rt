@@ -1,10 +1,10 @@
 // The costs of the branches of a step of the code of rate 1/4, by the sums of pairs of costs.
 ghost use Rattle.std.specs.Prelude.{◌≡◌, ◌<◌, ◌≤◌, ◌+◌, ◌-◌, ◌∷◌, [], ℕ, Bool, true, false, IsTrue, length, slice_index};
+ghost use Rattle.tetra_bits.specs.Cost.{cost};
 ghost use Rattle.tetra_bits.specs.Soft.{IsSoft, value_at};
 ghost use Rattle.tetra_mother.specs.Generators.{quarter};
 ghost use Rattle.tetra_puncture.specs.Quarter.{IsQuarter, quarter_cost, quarter_turned};
 
-use crate::butterflies::{raised, split};
 use std::simd::prelude::*;
 use tetra_mother::{Mother, Quarter};
 
@@ -40,33 +40,69 @@ pub(crate) fn is_quarter<M: Mother>() -> bool
     true
 }
 
-/// The costs of two values as the pairs of bits 00, 01, 10 and 11, from the costs of each as bit 0 and as bit 1.
+/// A soft value, raised by 2^15.
+#[tactic(auto, unfolding(tetra_bits::specs::Cost::cost))]
 #[inline(always)]
-fn pairs(a0: u32, a1: u32, b0: u32, b1: u32) -> [u32; 4]
-    requires first { (a0 ≤ 32768) × (a1 ≤ 32768) }
-    requires second { (b0 ≤ 32768) × (b1 ≤ 32768) }
-    ensures { result ≡ (a0 + b0) ∷ (a0 + b1) ∷ (a1 + b0) ∷ (a1 + b1) ∷ [] }
+fn raised(value: i16) -> u16
+    requires { IsSoft value }
+    ensures zero { 32768 - result ≡ cost value false }
+    ensures one { result - 32768 ≡ cost value true }
+    ensures some { 1 ≤ result }
 {
-    let first = u32x4::from_array([a0, a0, a1, a1]);
-    let second = u32x4::from_array([b0, b1, b0, b1]);
-    first.strict_add(second).to_array()
+    (i32::from(value) + 32768) as u16
 }
 
-/// The costs of all outputs by lanes, from those of the first two by pairs, and those of the last two. With bit 0 the
-/// states 0, 2 to 14 give the outputs 0000, 0101, 0110, 0011, 1011, 1110, 1101 and 1000.
+/// The costs of two raised values as the pairs of bits 00, 01, 10 and 11, and behind them those of two more.
 #[inline(always)]
-fn by_lanes(p: u32, q: u32, r: u32, s: u32, t: u32, u: u32, v: u32, w: u32) -> u32x8
-    requires first { (p ≤ 65536) × (q ≤ 65536) × (r ≤ 65536) × (s ≤ 65536) }
-    requires second { (t ≤ 65536) × (u ≤ 65536) × (v ≤ 65536) × (w ≤ 65536) }
-    ensures { result ≡ (p + t) ∷ (q + u) ∷ (q + v) ∷ (p + w) ∷ (r + w) ∷ (s + v) ∷ (s + u) ∷ (r + t) ∷ [] }
+fn pair_sums(a: u16, b: u16, c: u16, d: u16) -> [u32; 8]
+    requires { (1 ≤ a) × (1 ≤ b) × (1 ≤ c) × (1 ≤ d) }
+    ensures { result ≡ (32768 - a + (32768 - b)) ∷ (32768 - a + (b - 32768))
+        ∷ (a - 32768 + (32768 - b)) ∷ (a - 32768 + (b - 32768))
+        ∷ (32768 - c + (32768 - d)) ∷ (32768 - c + (d - 32768))
+        ∷ (c - 32768 + (32768 - d)) ∷ (c - 32768 + (d - 32768)) ∷ [] }
 {
-    let first = u32x8::from_array([p, q, q, p, r, s, s, r]);
-    let second = u32x8::from_array([t, u, v, w, w, v, u, t]);
+    let raised = u16x4::from_array([a, b, c, d]);
+    let middle = u16x4::splat(32768);
+    let zero = middle.saturating_sub(raised);
+    let one = raised.saturating_sub(middle);
+    let costs = zero.shuffle(one, [0, 1, 2, 3, 4, 5, 6, 7]);
+    let first = costs.swizzle([0, 0, 4, 4, 2, 2, 6, 6]);
+    let second = costs.swizzle([1, 5, 1, 5, 3, 7, 3, 7]);
+    first.strict_add(second).cast::<u32>().to_array()
+}
+
+/// The costs of all outputs by lanes, from those of the first two and the last two by pairs. With bit 0 the states 0, 2
+/// to 14 give the outputs 0000, 0101, 0110, 0011, 1011, 1110, 1101 and 1000.
+#[inline(always)]
+fn by_lanes(sums: &[u32; 8]) -> u32x8
+    requires { (i : ℕ) → slice_index sums.now i ≤ 65536 }
+    ensures { result ≡ (slice_index sums.now 0 + slice_index sums.now 4) ∷ (slice_index sums.now 1 + slice_index sums.now 5)
+        ∷ (slice_index sums.now 1 + slice_index sums.now 6) ∷ (slice_index sums.now 0 + slice_index sums.now 7)
+        ∷ (slice_index sums.now 2 + slice_index sums.now 7) ∷ (slice_index sums.now 3 + slice_index sums.now 6)
+        ∷ (slice_index sums.now 3 + slice_index sums.now 5) ∷ (slice_index sums.now 2 + slice_index sums.now 4) ∷ [] }
+{
+    let sums = u32x8::from_array(*sums);
+    let first = sums.swizzle([0, 1, 1, 0, 2, 3, 3, 2]);
+    let second = sums.swizzle([4, 5, 6, 7, 7, 6, 5, 4]);
     first.strict_add(second)
 }
 
-/// The costs of four values as the outputs of each lane, and as the complements of those outputs, which are the same
-/// sums of pairs turned round.
+/// The same of the complements of the outputs.
+#[inline(always)]
+fn turned_by_lanes(sums: &[u32; 8]) -> u32x8
+    requires { (i : ℕ) → slice_index sums.now i ≤ 65536 }
+    ensures { result ≡ (slice_index sums.now 3 + slice_index sums.now 7) ∷ (slice_index sums.now 2 + slice_index sums.now 6)
+        ∷ (slice_index sums.now 2 + slice_index sums.now 5) ∷ (slice_index sums.now 3 + slice_index sums.now 4)
+        ∷ (slice_index sums.now 1 + slice_index sums.now 4) ∷ (slice_index sums.now 0 + slice_index sums.now 5)
+        ∷ (slice_index sums.now 0 + slice_index sums.now 6) ∷ (slice_index sums.now 1 + slice_index sums.now 7) ∷ [] }
+{
+    let sums = u32x8::from_array(*sums);
+    let first = sums.swizzle([3, 2, 2, 3, 1, 0, 0, 1]);
+    let second = sums.swizzle([7, 6, 5, 4, 4, 5, 6, 7]);
+    first.strict_add(second)
+}
+
+/// The costs of four values as the outputs of each lane, and as the complements of those outputs.
 #[inline(always)]
 pub(crate) fn quarter_costs(values: [i16; 4]) -> (u32x8, u32x8)
     requires soft { (i : ℕ) → IsSoft (value_at values i) }
@@ -74,16 +110,11 @@ pub(crate) fn quarter_costs(values: [i16; 4]) -> (u32x8, u32x8)
     ensures cost { (i : ℕ) → i < 8 → slice_index result.0 i ≡ quarter_cost values i }
     ensures turned { (i : ℕ) → i < 8 → slice_index result.1 i ≡ quarter_turned values i }
 {
-    let (zero, one, _) = split(
+    let sums = pair_sums(
         raised(values[0]),
         raised(values[1]),
         raised(values[2]),
         raised(values[3]),
     );
-    let [p, q, r, s] = pairs(zero[0], one[0], zero[1], one[1]);
-    let [t, u, v, w] = pairs(zero[2], one[2], zero[3], one[3]);
-    (
-        by_lanes(p, q, r, s, t, u, v, w),
-        by_lanes(s, r, q, p, w, v, u, t),
-    )
+    (by_lanes(&sums), turned_by_lanes(&sums))
 }

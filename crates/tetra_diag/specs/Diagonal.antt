@@ -2,7 +2,7 @@
 -- and each push gives one slot word: bit k of slot word m is bit j + 1 + i n of block m - j, with
 -- j = (k - 1) div (432 / n) and i = (k - 1) mod (432 / n), and 0 where there is no block m - j. Bits and values are
 -- numbered from 1. How the values of a block are found again is this project's own.
-use Rattle.std.specs.Prelude.{◌≡◌, ℕ, ◌+◌, ◌-◌, ◌*◌, ◌/◌, ◌%◌, Bool, true, false, ◌||◌, IsTrue, cond, List, [], length, drop, slice_index_or, nat_eq, nat_lt, ℤ, Option, Some, None}
+use Rattle.std.specs.Prelude.{◌≡◌, ◌<◌, ℕ, ◌+◌, ◌-◌, ◌*◌, ◌/◌, ◌%◌, Bool, true, false, ◌||◌, IsTrue, cond, List, [], length, drop, slice_index_or, nat_eq, nat_lt, ℤ, Option, Some, None}
 use Rattle.tetra_bits.specs.Numbered.{numbered}
 use Rattle.tetra_bits.specs.Order.{bit_at}
 use Rattle.tetra_bits.specs.Soft.{value_at}
@@ -36,6 +36,10 @@ gathered_value n words q =
     let j = (q - 1) % n in
     let i = (q - 1) / n in
     value_at (slice_index_or words (length words - n + j) []) (j * (432 / n) + i + 1 - 1)
+
+-- of the places of such a block, word by word, the first m have their values
+abbrev pub AreGathered : ℕ → List (List ℤ) → ℕ → List ℤ → Type 0
+AreGathered n words m block = (q : ℕ) → q < 432 → q % n * (432 / n) + q / n < m → value_at block q ≡ gathered_value n words (q + 1)
 
 -- the block that the last of these words completes: none before there are n
 unfoldable pub gathered : ℕ → List (List ℤ) → Option (List ℤ)

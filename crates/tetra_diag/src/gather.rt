@@ -1,8 +1,8 @@
 // Gathering blocks from slots.
-ghost use Rattle.std.specs.Prelude.{◌≡◌, ◌<◌, ◌≤◌, ◌+◌, ◌++◌, ◌∷◌, [], ℕ, ℤ, List, length, All, IsTrue, IfSome};
+ghost use Rattle.std.specs.Prelude.{◌≡◌, ◌<◌, ◌≤◌, ◌+◌, ◌*◌, ◌/◌, ◌++◌, ◌∷◌, [], ℕ, ℤ, List, length, All, IsTrue, IfSome};
 ghost use Rattle.tetra_bits.specs.Numbered.{numbered};
 ghost use Rattle.tetra_bits.specs.Soft.{IsSoft, AllWithin};
-ghost use Rattle.tetra_diag.specs.Diagonal.{IsDepth, GatherStands, gathered, gathered_value, Fills};
+ghost use Rattle.tetra_diag.specs.Diagonal.{IsDepth, GatherStands, gathered, gathered_value, AreGathered, Fills};
 ghost use Rattle.tetra_diag.specs.Ring.{Puts, turned};
 
 use crate::ring::place;
@@ -98,10 +98,7 @@ fn keep_word<const N: usize>(words: &mut ArrayVec<Soft, N>, oldest: usize, word:
 fn refill(kept: &mut Soft, word: &Soft)
     ensures { kept.new ≡ word.now }
 {
-    kept.clear();
-    for i in 0..word.len() {
-        kept.push(word.get(i));
-    }
+    *kept = word.copy();
 }
 
 /// Fills `block` with the block that the last word of a ring completes, where there is one.
@@ -129,22 +126,40 @@ fn fill_block<const N: usize>(words: &[Soft], oldest: usize, block: &mut Soft)
     ensures value { block.new ≡ numbered (gathered_value N (turned oldest words.now)) 432 }
     ensures size { length block.new ≡ 432 }
 {
-    block.clear();
-    for q in 0..432usize {
-        block.push(value_of::<N>(words, oldest, q));
+    block.resize(432);
+    for j in 0..N {
+        fill_places::<N>(words, oldest, j, block);
     }
 }
 
-/// The value of place `q`, counted from 0, of the block that a full ring of words completes.
-fn value_of<const N: usize>(words: &[Soft], oldest: usize, q: usize) -> i16
+/// Writes the values that a full ring of words has in word `j`, counted from the oldest on, at their places of the block:
+/// `j`, `j + N` and so on, counted from 0.
+fn fill_places<const N: usize>(words: &[Soft], oldest: usize, j: usize, block: &mut Soft)
     requires depth { IsDepth N }
     requires size { All (λ w. length w ≡ 432) words.now }
     requires full { length words.now ≡ N }
     requires low { oldest ≤ length words.now }
-    requires in_block { q < 432 }
-    ensures value { result ≡ gathered_value N (turned oldest words.now) (q + 1) }
+    requires word { j < N }
+    requires long { length block.old ≡ 432 }
+    ensures size { length block.new ≡ 432 }
+    ensures written { AreGathered N (turned oldest words.now) (j * (432 / N)) block.old
+        → AreGathered N (turned oldest words.now) ((j + 1) * (432 / N)) block.new }
+{
+    for i in 0..432 / N {
+        block.set(i * N + j, value_of::<N>(words, oldest, j, i));
+    }
+}
+
+/// The value at `i * N + j`, counted from 0, of the block that a full ring of words completes.
+fn value_of<const N: usize>(words: &[Soft], oldest: usize, j: usize, i: usize) -> i16
+    requires depth { IsDepth N }
+    requires size { All (λ w. length w ≡ 432) words.now }
+    requires full { length words.now ≡ N }
+    requires low { oldest ≤ length words.now }
+    requires word { j < N }
+    requires place { i < 432 / N }
+    ensures value { result ≡ gathered_value N (turned oldest words.now) (i * N + j + 1) }
     ensures soft { IsSoft result }
 {
-    let (j, i) = (q % N, q / N);
     words[place(oldest, j, words.len())].get(j * (432 / N) + i)
 }

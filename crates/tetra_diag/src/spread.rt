@@ -1,5 +1,6 @@
 // Spreading blocks over slots.
-ghost use Rattle.std.specs.Prelude.{◌≡◌, ◌<◌, ◌≤◌, ◌+◌, ◌++◌, ◌∷◌, [], Bool, List, length, All};
+ghost use Rattle.std.specs.Prelude.{◌≡◌, ◌<◌, ◌≤◌, ◌+◌, ◌*◌, ◌/◌, ◌++◌, ◌∷◌, [], Bool, false, List, length, All};
+ghost use Rattle.tetra_bits.specs.lemmas.InPlace.{Begins};
 ghost use Rattle.tetra_diag.specs.Diagonal.{IsDepth, SpreadStands, spread_bit, spread_word};
 ghost use Rattle.tetra_diag.specs.Ring.{Puts, turned};
 
@@ -87,10 +88,7 @@ fn keep_block<const N: usize>(blocks: &mut ArrayVec<Bits, N>, oldest: usize, blo
 fn refill(kept: &mut Bits, block: &Bits)
     ensures { kept.new ≡ block.now }
 {
-    kept.clear();
-    for i in 0..block.len() {
-        kept.push(block.get(i));
-    }
+    *kept = block.copy();
 }
 
 /// Fills `word` with the slot word of the last block of a ring.
@@ -102,23 +100,38 @@ fn fill_word<const N: usize>(blocks: &[Bits], oldest: usize, word: &mut Bits)
     ensures word { word.new ≡ spread_word N (turned oldest blocks.now) }
     ensures size { length word.new ≡ 432 }
 {
-    word.clear();
-    for k in 0..432usize {
-        word.push(bit_of::<N>(blocks, oldest, k));
+    word.resize(432);
+    for j in 0..N {
+        fill_part::<N>(blocks, oldest, j, word);
     }
 }
 
-/// Bit `k`, counted from 0, of the slot word of the last block of a ring.
-fn bit_of<const N: usize>(blocks: &[Bits], oldest: usize, k: usize) -> bool
+/// Writes part `j` of the slot word, counted from 0: bits of the block that was pushed `j` before the last.
+fn fill_part<const N: usize>(blocks: &[Bits], oldest: usize, j: usize, word: &mut Bits)
     requires depth { IsDepth N }
     requires size { All (λ b. length b ≡ 432) blocks.now }
     requires few { length blocks.now ≤ N }
     requires low { oldest ≤ length blocks.now }
-    requires in_word { k < 432 }
-    ensures { result ≡ spread_bit N (turned oldest blocks.now) (k + 1) }
+    requires part { j < N }
+    requires long { length word.old ≡ 432 }
+    ensures size { length word.new ≡ 432 }
+    ensures written { Begins (spread_bit N (turned oldest blocks.now)) false (j * (432 / N)) word.old
+        → Begins (spread_bit N (turned oldest blocks.now)) false ((j + 1) * (432 / N)) word.new }
 {
-    let part = 432 / N;
-    let (j, i) = (k / part, k % part);
+    for i in 0..432 / N {
+        word.set(j * (432 / N) + i, bit_of::<N>(blocks, oldest, j, i));
+    }
+}
+
+/// Bit `i` of part `j`, both counted from 0, of the slot word of the last block of a ring.
+fn bit_of<const N: usize>(blocks: &[Bits], oldest: usize, j: usize, i: usize) -> bool
+    requires depth { IsDepth N }
+    requires size { All (λ b. length b ≡ 432) blocks.now }
+    requires few { length blocks.now ≤ N }
+    requires low { oldest ≤ length blocks.now }
+    requires bit { i < 432 / N }
+    ensures { result ≡ spread_bit N (turned oldest blocks.now) (j * (432 / N) + i + 1) }
+{
     if j < blocks.len() {
         let newest = blocks.len() - 1;
         blocks[place(oldest, newest - j, blocks.len())].get(j + i * N)

@@ -1,9 +1,7 @@
-use Rattle.std.proofs.Common.{◌∙◌, ◌≡◌, FitsSigned, w16, rules, arith, length, ◌%◌, ◌<◌}
+use Rattle.std.proofs.Common.{◌∙◌, ◌≡◌, FitsSigned, w16, rules, arith, length}
 use Rattle.std.proofs.lemmas.Int.{to_z-of_z}
-use Rattle.std.proofs.lemmas.Nat.{mod_below}
-use Rattle.tetra_diag.specs.lemmas.Depths.{depth_width}
 use Rattle.tetra_diag.specs.Ring.{turned}
-use Rattle.tetra_diag.proofs.Entries.{value_there}
+use Rattle.tetra_diag.proofs.Entries.{value_in_word}
 use Rattle.tetra_diag.proofs.Rings.{turned_read, length-turned}
 use Rattle.tetra_diag.proofs.gather.value_of.Goals as goal
 
@@ -11,9 +9,7 @@ pub returns-clause-value : goal.returns-clause-value
 returns-clause-value g c =
     let n = g.row.N in
     let words = c.args.words.now in
-    let w = depth_width n c.requires.depth in
     let fits : FitsSigned w16 c.get.result = search rules in
-    let low : c.args.q % n < n = mod_below c.args.q n w.some in
     let long : length (turned c.args.oldest words) ≡ n = length-turned c.args.oldest words c.requires.low ∙ c.requires.full in
-    let read = turned_read c.args.oldest (c.args.q % n) c.place.result words c.index-words-place.result c.requires.low (omega (arith, low, c.requires.full)) c.place.ensures.value c.index-words-place.is in
-    rw to_z-of_z (c.get.ensures.value ∙ value_there n (turned c.args.oldest words) c.args.q c.index-words-place.result w.some long read)
+    let read = turned_read c.args.oldest c.args.j c.place.result words c.index-words-place.result c.requires.low (omega (arith, c.requires.full)) c.place.ensures.value c.index-words-place.is in
+    rw to_z-of_z (c.get.ensures.value ∙ value_in_word n (turned c.args.oldest words) c.args.j c.args.i c.index-words-place.result c.requires.word long read)

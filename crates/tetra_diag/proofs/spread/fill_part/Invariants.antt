@@ -1,0 +1,13 @@
+use Rattle.std.proofs.Common.{◌≡◌, ◌+◌, ◌*◌, ◌/◌, length, false}
+use Rattle.tetra_bits.specs.lemmas.InPlace.{Begins}
+use Rattle.tetra_diag.specs.Diagonal.{spread_bit}
+use Rattle.tetra_diag.specs.Ring.{turned}
+use Rattle.tetra_diag.proofs.spread.fill_part.Given as goal
+
+abbrev pub invariant-loop-i : goal.invariant-loop-i
+invariant-loop-i g l =
+    record {
+      size : length l.word ≡ 432;
+      written : Begins (spread_bit g.row.N (turned l.oldest l.blocks)) false (l.j * (432 / g.row.N)) l.initial.word
+          → Begins (spread_bit g.row.N (turned l.oldest l.blocks)) false (l.j * (432 / g.row.N) + l.i) l.word;
+    }

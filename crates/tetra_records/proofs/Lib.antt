@@ -6,3 +6,4 @@ pub mod Beginnings
 pub mod Filled
 pub mod Given
 pub mod Lengths
+pub mod Rows

@@ -68,15 +68,27 @@ fn add_number<const N: usize>(number: u32, out: &mut ArrayVec<u8, N>)
     out.push((number % 256) as u8);
 }
 
+/// The bytes of a row, two for each of its 16 entries.
+fn bytes_of_row(row: &[u32; 16]) -> [u8; 32]
+    requires small { (s : ℕ) → slice_index row.now s ≤ 65535 }
+    ensures { result ≡ row_bytes row.now }
+{
+    let mut bytes = [0; 32];
+    for s in 0..16usize {
+        bytes[2 * s] = (row[s] / 256) as u8;
+        bytes[2 * s + 1] = (row[s] % 256) as u8;
+    }
+    bytes
+}
+
 fn add_row<const N: usize>(row: &[u32; 16], out: &mut ArrayVec<u8, N>)
     requires small { (s : ℕ) → slice_index row.now s ≤ 65535 }
     requires room { array_vec_len out.old + 32 ≤ N }
     ensures bytes { out.new.items ≡ out.old.items ++ row_bytes row.now }
     ensures len { array_vec_len out.new ≡ array_vec_len out.old + 32 }
 {
-    for s in 0..16usize {
-        add_number(row[s], out);
-    }
+    let bytes = bytes_of_row(row);
+    out.try_extend_from_slice(&bytes).unwrap();
 }
 
 #[tactic(auto, unfolding(tetra_bits::specs::Readings::entry))]

@@ -7,7 +7,7 @@ ghost use Rattle.tetra_channels.specs.Laws.{UndamagedAccessIsRead};
 
 use tetra_bits::{Bits, Mark, Reading, Soft};
 use tetra_rm::{Rows, decode, encode, message_bits, undamaged_arrives};
-use tetra_scramble::{Key, flip_bits, flipped_back, stays_undamaged};
+use tetra_scramble::{Key, flip_bits_in_place, flipped_back, stays_undamaged};
 
 /// AACH: a message of 14 bits, of which 30 are sent (EN 300 392-2 clause 8.3.1.1; the rows of its code are given).
 pub struct Aach;
@@ -19,7 +19,9 @@ impl Aach {
         ensures bits { result ≡ access_bits rows.now.0 key.now message }
         ensures size { length result ≡ 30 }
     {
-        flip_bits(&encode(rows, message), key, 1)
+        let mut bits = encode(rows, message);
+        flip_bits_in_place(&mut bits, key, 1);
+        bits
     }
 
     /// What is read over 30 values that are descrambled: the first-least message of the access code, unchecked, and its

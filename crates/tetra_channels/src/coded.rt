@@ -15,7 +15,9 @@ use tetra_bits::{Bits, Mark, Potentials, Reading, Soft};
 use tetra_interleave::{Block, blocks_are_one_to_one, stay_none_wrong, stay_undamaged};
 use tetra_parity::{blocks_are_good, mark, with_parity};
 use tetra_puncture::{P148, P292, Plan, TwoThirds, keep};
-use tetra_scramble::{Key, flip_bits, flip_soft, flipped_back, stays_none_wrong, stays_undamaged};
+use tetra_scramble::{
+    Key, flip_bits_in_place, flip_soft, flipped_back, stays_none_wrong, stays_undamaged,
+};
 use tetra_trellis::solve_into;
 
 /// A coded channel (EN 300 392-2 clause 8): `PAR` parity bits, 16 or none, the plan `P` of its code,
@@ -81,7 +83,9 @@ impl<const PAR: usize, const K3: usize, const A: usize, const INV: usize, P: Pla
         ensures placed { IsPlaced false K3 (block_place K3 A) word.now (flipped result key.now 1) }
         ensures size { length result ≡ K3 }
     {
-        flip_bits(&Block::<K3, A, INV>::bits_out(word), key, 1)
+        let mut bits = Block::<K3, A, INV>::bits_out(word);
+        flip_bits_in_place(&mut bits, key, 1);
+        bits
     }
 
     /// Received type-5 values in the order of type-3 bits: descrambled, and the interleaver undone.

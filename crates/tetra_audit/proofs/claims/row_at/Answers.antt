@@ -1,15 +1,15 @@
-use Rattle.std.proofs.Common.{◌+◌, ℕ, arith, ◌∙◌}
-use Rattle.std.proofs.Math.ListN.{length-set}
-use Rattle.tetra_audit.specs.Claims.{claimed_entry}
-use Rattle.tetra_audit.proofs.Tables.{one_entry, entry_here, row_is}
+use Rattle.std.proofs.Common.{◌+◌, ◌*◌, ◌≤◌, arith, w8}
+use Rattle.std.proofs.lemmas.Simd.{length-chunk, chunk-fits, below_from_Fits}
+use lib.Lanes.{chunk}
+use Rattle.tetra_audit.proofs.Tables.{row_is}
 use Rattle.tetra_audit.proofs.claims.row_at.Goals as goal
 
-pub loop-s-preserved : goal.loop-s-preserved
-loop-s-preserved c = record {
-  size = omega (arith, length-set {A = ℕ});
-  entries = one_entry (λ k. claimed_entry c.args.bytes.now (c.args.t + 1) (k + 1)) c.loop-s.row c.loop-s.s c.number_at.result (omega arith)
-      (c.number_at.ensures ∙ entry_here c.args.bytes.now c.args.t c.loop-s.s) c.loop-s.invariant.entries;
-}
+pub numbers_of-requires-clause-long : goal.numbers_of-requires-clause-long
+numbers_of-requires-clause-long c = length-chunk (32 * c.args.t) 32 c.args.bytes.now (omega arith)
+
+pub numbers_of-requires-clause-bytes : goal.numbers_of-requires-clause-bytes
+numbers_of-requires-clause-bytes c =
+    below_from_Fits w8 (chunk (32 * c.args.t) 32 c.args.bytes.now) (chunk-fits w8 (32 * c.args.t) 32 c.args.bytes.now c.type_inv.bytes)
 
 pub returns : goal.returns
-returns c = row_is c.args.bytes.now c.args.t c.loop-s.row c.loop-s.invariant.size (λ k h. c.loop-s.invariant.entries k (omega arith))
+returns c = row_is c.args.bytes.now c.args.t c.numbers_of.result c.numbers_of.ensures.long c.numbers_of.ensures.value

@@ -2,6 +2,7 @@ pub mod Agreeing
 pub mod Codes
 pub mod FieldCases
 pub mod FieldsInOrder
+pub mod Pairs
 pub mod RightClaims
 pub mod RightFields
 pub mod Spelled

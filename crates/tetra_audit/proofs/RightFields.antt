@@ -107,13 +107,13 @@ module _ (rows : List ℕ) (field : FrontField) (claimed : Field) (right : IsRig
   unfolding spelled_plain
   right_plain plain = right_bytes None (plain.only claimed.reading.potentials right.potentials)
 
-  right_table : (coded : IsCoded rows field.name field.soft) → (table : List (List ℕ)) × (claimed.reading.potentials ≡ Some table) × IsCertificate coded.part.plan (drop coded.part.before coded.soft) table
+  pub right_table : (coded : IsCoded rows field.name field.soft) → (table : List (List ℕ)) × (claimed.reading.potentials ≡ Some table) × IsCertificate coded.part.plan (drop coded.part.before coded.soft) table
   right_table coded =
       table_of coded.part coded.soft claimed.reading.potentials
       (subst (λ (p : Option CodedPart). AreCertified p (Some coded.soft) claimed.reading.potentials) coded.of_part
       (subst (λ (v : Option (List ℤ)). AreCertified (coded_part (reader field.name)) v claimed.reading.potentials) coded.there right.potentials))
 
-  right_coded : (table : List (List ℕ)) → claimed.reading.potentials ≡ Some table → field_bytes Audit claimed ≡ defined (field_reading rows field.name field.soft) table
+  pub right_coded : (table : List (List ℕ)) → claimed.reading.potentials ≡ Some table → field_bytes Audit claimed ≡ defined (field_reading rows field.name field.soft) table
   unfolding defined
   right_coded table e = right_bytes (Some table) e
 

@@ -47,7 +47,7 @@ pub length-table_bytes : (table : List (List ℕ)) → All (λ row. length row �
 unfolding table_bytes
 length-table_bytes table all = flat_length row_bytes 32 table (rows_long table all)
 
-byte_at : (table : List (List ℕ)) → All (λ row. length row ≡ 16) table → (i j b : ℕ) → i < length table → j < 16 → b < 2 →
+pub byte_at : (table : List (List ℕ)) → All (λ row. length row ≡ 16) table → (i j b : ℕ) → i < length table → j < 16 → b < 2 →
     get_or (table_bytes table) (32 * i + (2 * j + b)) 0 ≡ get_or (two_bytes (get_or (get_or table i []) j 0)) b 0
 unfolding table_bytes
 byte_at table all i j b h g k =
@@ -55,7 +55,7 @@ byte_at table all i j b h g k =
     flat_at row_bytes 32 table (rows_long table all) i (2 * j + b) [] h (omega arith) ∙ row_at (get_or table i []) j b (omega arith) k
 
 -- a number of two bytes
-entry_at : (table : List (List ℕ)) → All (λ row. length row ≡ 16) table → (i j : ℕ) → i < length table → j < 16 → number_at (table_bytes table) (16 * i + j) ≡ get_or (get_or table i []) j 0
+pub entry_at : (table : List (List ℕ)) → All (λ row. length row ≡ 16) table → (i j : ℕ) → i < length table → j < 16 → number_at (table_bytes table) (16 * i + j) ≡ get_or (get_or table i []) j 0
 unfolding number_at
 entry_at table all i j h g =
     let first : 2 * (16 * i + j) ≡ 32 * i + (2 * j + 0) = omega arith in
@@ -64,7 +64,7 @@ entry_at table all i j h g =
     let low : get_or (table_bytes table) (2 * (16 * i + j) + 1) 0 ≡ get_or (get_or table i []) j 0 % 256 = ap (λ n. get_or (table_bytes table) n 0) second ∙ byte_at table all i j 1 h g (omega arith) in
     omega (arith, high, low)
 
-claimed_at : (bytes : List ℕ) (i j : ℕ) → claimed_entry bytes (i + 1) (j + 1) ≡ number_at bytes (16 * i + j)
+pub claimed_at : (bytes : List ℕ) (i j : ℕ) → claimed_entry bytes (i + 1) (j + 1) ≡ number_at bytes (16 * i + j)
 unfolding claimed_entry
 claimed_at bytes i j = let e : 16 * (i + 1 - 1) + (j + 1 - 1) ≡ 16 * i + j = omega arith in ap (number_at bytes) e
 

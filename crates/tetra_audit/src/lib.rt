@@ -6,6 +6,7 @@ mod claims;
 mod fields;
 mod laws;
 mod layouts;
+pub mod pair;
 mod slots;
 mod verdict;
 

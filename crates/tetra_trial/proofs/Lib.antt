@@ -1,0 +1,5 @@
+pub mod Fronts
+pub mod Adding
+pub mod Summing
+pub mod Keeping
+pub mod Passing

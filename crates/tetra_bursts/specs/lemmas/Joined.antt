@@ -1,5 +1,5 @@
 -- Undamaged values in pieces.
-use Rattle.std.proofs.Common.{◌+◌, ◌-◌, ◌<◌, Bool, false, ℤ, pos, List, ◌++◌, length, arith, refl, inl, inr}
+use Rattle.std.proofs.Common.{◌-◌, ◌<◌, Bool, false, ℤ, pos, List, ◌++◌, length, arith, refl, inl, inr}
 use Rattle.std.proofs.lemmas.Bool.{cases_lt}
 use Rattle.std.proofs.lemmas.List.{get_or_append_left, get_or-append_right, length-append}
 use Rattle.tetra_bits.specs.Undamaged.{IsUndamaged}

@@ -1,18 +1,15 @@
 -- Written slots: how many values they have, and that these are soft values.
-use Rattle.std.proofs.Common.{◌≡◌, ℕ, ◌+◌, ◌-◌, Bool, true, false, cond, List, [], ◌∷◌, ◌++◌, length, ℤ, pos, arith, refl, ◌∙◌}
+use Rattle.std.proofs.Common.{◌≡◌, ℕ, ◌+◌, ◌-◌, Bool, true, false, cond, List, [], ◌∷◌, length, pos, arith, refl, ◌∙◌}
 use Rattle.std.proofs.lemmas.Int.{ints}
 use Rattle.std.proofs.lemmas.List.{length-append}
 use Rattle.std.proofs.lemmas.List.Elements.{All-append}
 use Rattle.tetra_bits.specs.Numbered.{length-numbered, all_numbered}
 use Rattle.tetra_bits.specs.Order.{bit_at}
 use Rattle.tetra_bits.specs.Soft.{IsSoft, AllSoft}
-use Rattle.tetra_bursts.specs.Bursts.{downlink, pairs, sub_table, subs_table, normal_down_slot, sync_down_slot, normal_up_slot, control_up_slot}
-use Rattle.tetra_bursts.specs.Phase.{signs}
-use Rattle.tetra_bursts.specs.Slot.{Carried, with_pairs, bits_of, level, levels, flat, span_values, written}
+use Rattle.tetra_bursts.specs.Slot.{Carried, bits_of, level, levels, flat, span_values, written}
 use Rattle.tetra_bursts.specs.Table.{is_part, total}
 use Rattle.tetra_bursts.specs.declared.table.Part.TheVariants.{Silent}
 use Rattle.tetra_bursts.specs.declared.table.Span.{Span}
-use Rattle.tetra_bursts.specs.declared.table.Train.{Train}
 
 span_size : (carried : Carried) (s : Span) → length (span_values carried s) ≡ s.count
 unfolding flat levels

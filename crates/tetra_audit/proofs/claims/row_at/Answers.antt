@@ -1,4 +1,4 @@
-use Rattle.std.proofs.Common.{◌+◌, ◌*◌, ◌≤◌, arith, w8}
+use Rattle.std.proofs.Common.{◌*◌, arith, w8}
 use Rattle.std.proofs.lemmas.Simd.{length-chunk, chunk-fits, below_from_Fits}
 use lib.Lanes.{chunk}
 use Rattle.tetra_audit.proofs.Tables.{row_is}

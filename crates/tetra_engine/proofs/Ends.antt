@@ -3,7 +3,7 @@ use Rattle.std.proofs.Common.{◌≡◌, ℕ, ◌==◌, List, [], ◌∷◌, len
 use Rattle.tetra_settings.specs.declared.types.Settings.{Settings}
 use Rattle.tetra_engine.specs.declared.status.End.{End}
 use Rattle.tetra_engine.specs.declared.status.Status.{Status}
-use Rattle.tetra_engine.specs.declared.status.Status.TheVariants.{Done, Refused, Words, TooLong, Input, Read, Write, NotBuilt}
+use Rattle.tetra_engine.specs.declared.status.Status.TheVariants.{Done, Refused, Words, TooLong, Input, Read, Write}
 use Rattle.tetra_engine.specs.Shapes.{Shape, IsUnambiguous, IsDecided, outputs}
 use Rattle.tetra_engine.specs.Outcomes.{Closes, OneEnd}
 use Rattle.tetra_records.specs.Records.{why as record_why}
@@ -42,7 +42,6 @@ one_way settings n bytes (Input slot why) stops = ap (λ m. Input m why) stops.0
 one_way settings n bytes Read stops = absurd stops
 one_way settings n bytes Write stops = absurd stops
 one_way settings n bytes TooLong stops = absurd stops
-one_way settings n bytes NotBuilt stops = absurd stops
 
 pub encoding_decided : (settings : Settings) → IsDecided (encoding settings)
 encoding_decided settings before bytes s t a b = one_way settings (length before) bytes s a ∙ sym (one_way settings (length before) bytes t b)

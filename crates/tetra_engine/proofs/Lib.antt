@@ -11,6 +11,7 @@ pub mod OwnAudits
 pub mod DataReadings
 pub mod OwnReadings
 pub mod Said
+pub mod Serial
 pub mod MeetsEnd
 pub mod Intakes
 pub mod Small

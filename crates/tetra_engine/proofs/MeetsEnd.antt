@@ -5,7 +5,7 @@ use Rattle.tetra_records.specs.Records.{ends_by_fault}
 use Rattle.tetra_records.specs.declared.faults.RecordFault.{RecordFault}
 use Rattle.tetra_records.specs.declared.faults.RecordFault.TheVariants.{UnknownKind, WrongKind, PadBit, Truncated}
 use Rattle.tetra_engine.specs.declared.status.Status.{Status}
-use Rattle.tetra_engine.specs.declared.status.Status.TheVariants.{Done, Refused, Words, TooLong, Input, Read, Write, NotBuilt}
+use Rattle.tetra_engine.specs.declared.status.Status.TheVariants.{Done, Refused, Words, TooLong, Input, Read, Write}
 use Rattle.tetra_engine.specs.declared.work.Stop.{Stop}
 use Rattle.tetra_engine.specs.declared.work.Stop.TheVariants.{End as EndStop, Bad, More, Fault}
 use Rattle.tetra_engine.specs.Outcomes.{IsEnd, EndsMet}
@@ -20,7 +20,6 @@ met_at_end (Input slot why) before now quiet met = absurd quiet
 met_at_end Read before now quiet met = absurd quiet
 met_at_end Write before now quiet met = absurd quiet
 met_at_end TooLong before now quiet met = absurd quiet
-met_at_end NotBuilt before now quiet met = absurd quiet
 
 -- where no input came
 pub met_by_stop : (stop : Stop) (last : Status) (slots before now : ℕ) → now ≡ ends_by_stop stop before → IsEnd last → EndsMet (end_by stop last slots).status before now
@@ -44,4 +43,3 @@ met_where_write_failed (Input slot why) before now met = met_by_fault why before
 met_where_write_failed Read before now met = inl met
 met_where_write_failed Write before now met = met
 met_where_write_failed TooLong before now met = inl met
-met_where_write_failed NotBuilt before now met = inl met

@@ -10,7 +10,7 @@ use Rattle.tetra_io.specs.Filling.{TakesFewer, AddsFront, Went}
 use Rattle.tetra_io.specs.lemmas.Told.{Went-behind, AreTold-some, AreTold-end, AreTold-behind, AreTold-went}
 use Rattle.tetra_engine.specs.declared.status.End.{End}
 use Rattle.tetra_engine.specs.declared.status.Status.{Status}
-use Rattle.tetra_engine.specs.declared.status.Status.TheVariants.{Done, Refused, Words, TooLong, Input, Read, Write, NotBuilt}
+use Rattle.tetra_engine.specs.declared.status.Status.TheVariants.{Done, Refused, Words, TooLong, Input, Read, Write}
 use Rattle.tetra_records.specs.declared.faults.RecordFault.TheVariants.{Truncated}
 use Rattle.tetra_engine.specs.Shapes.{Shape, AreInputs, spellings, outputs, NoInput}
 use Rattle.tetra_engine.specs.Outcomes.{EndsBy, TookBefore, IsEnd, Outcome, IsPart, ReadFront, WriteFront, Came, Grows, IsFrontOfNext, Over}
@@ -235,7 +235,6 @@ flush_front (Input i w) shape max r0 r1 t0 t1 t2 end ends other kept = flush_out
 flush_front Read shape max r0 r1 t0 t1 t2 end ends other kept = flush_read shape max r0 r1 t0 t1 t2 end ends kept
 flush_front Write shape max r0 r1 t0 t1 t2 end ends other kept = absurd (other refl)
 flush_front TooLong shape max r0 r1 t0 t1 t2 end ends other kept = flush_outcome shape max r0 t0 t1 t2 end ends kept
-flush_front NotBuilt shape max r0 r1 t0 t1 t2 end ends other kept = flush_outcome shape max r0 t0 t1 t2 end ends kept
 
 -- nothing is left
 done_outcome : {X : Type 0} (shape : Shape X) (max n : ℕ) (xs : List X) (status : Status) (r0 r1 t0 t1 : Option (List ℕ))
@@ -264,7 +263,6 @@ done_front shape max n xs (Input i w) r0 r1 r2 t0 t1 some ran none is quiet = ab
 done_front shape max n xs Read r0 r1 r2 t0 t1 some ran none is quiet = absurd quiet
 done_front shape max n xs Write r0 r1 r2 t0 t1 some ran none is quiet = absurd quiet
 done_front shape max n xs TooLong r0 r1 r2 t0 t1 some ran none is quiet = absurd quiet
-done_front shape max n xs NotBuilt r0 r1 r2 t0 t1 some ran none is quiet = absurd quiet
 
 -- the end where no input came
 pub stopped : {X : Type 0} (shape : Shape X) (max n : ℕ) (xs : List X) (stop : Stop) (last : Status) (r0 r1 r2 t0 t1 : Option (List ℕ)) (Stands : Type 0)

@@ -1,5 +1,5 @@
 -- What an end says of its words and of the number of its slots, over any source.
-use Rattle.std.proofs.Common.{◌≡◌, ◌⊎◌, ℕ, ◌+◌, ◌<◌, ◌≤◌, ◌==◌, List, [], ◌∷◌, ◌++◌, length, refl, sym, inl, inr, subst, arith, length-append, Option, Bool, true, false, MatchBool, Ok, IsTrue}
+use Rattle.std.proofs.Common.{◌≡◌, ◌⊎◌, ℕ, zero, suc, ◌+◌, ◌*◌, ◌<◌, ◌≤◌, ◌==◌, List, [], ◌∷◌, ◌++◌, length, refl, sym, inl, inr, subst, arith, length-append, Option, Bool, true, false, MatchBool, Ok, IsTrue}
 use Rattle.std.proofs.lemmas.Bool.{eqb-true}
 use Rattle.tetra_settings.specs.declared.types.Command.{Command}
 use Rattle.tetra_settings.specs.declared.types.Command.TheVariants.{Encode, Decode, Audit, Gen, Trial}
@@ -12,14 +12,16 @@ use Rattle.tetra_audit.specs.declared.verdict.SlotVerdict.{SlotVerdict}
 use Rattle.tetra_audit.specs.declared.verdict.SlotVerdict.TheVariants.{Agrees, Kind, Field}
 use Rattle.tetra_engine.specs.declared.status.End.{End}
 use Rattle.tetra_engine.specs.declared.status.Status.{Status}
-use Rattle.tetra_engine.specs.declared.status.Status.TheVariants.{Done, Refused, Words, TooLong, Input, Read, Write, NotBuilt}
+use Rattle.tetra_engine.specs.declared.status.Status.TheVariants.{Done, Refused, Words, TooLong, Input, Read, Write}
 use Rattle.tetra_engine.specs.Shapes.{Shape}
 use Rattle.tetra_engine.specs.Encoding.{encoding}
 use Rattle.tetra_engine.specs.Decoding.{decoding}
 use Rattle.tetra_engine.specs.Auditing.{auditing, Claimed, refused_by, refused_slots, verdict_at, audit_status}
-use Rattle.tetra_engine.specs.Built.{is_built_command}
 use Rattle.tetra_engine.specs.Outcomes.{Outcome, Closes, EndsBy, Over}
-use Rattle.tetra_engine.specs.Running.{CommandEnds, Says, IsAudit}
+use Rattle.tetra_engine.specs.Running.{CommandEnds, Says, IsAudit, most_slots}
+use Rattle.tetra_engine.specs.Series.{Series, SeriesEnds}
+use Rattle.tetra_engine.specs.Generating.{generating}
+use Rattle.tetra_engine.specs.Trying.{trying}
 use Rattle.tetra_engine.proofs.Ends.{one_way}
 use Rattle.tetra_engine.proofs.Audited.{refused_few}
 
@@ -72,7 +74,6 @@ module _ {X : Type 0} (shape : Shape X) (A : Type 0) (stops : StopsSo shape) (do
   ends_said Read is (came, went, out) = (omega (arith, out.cut.few, out.slots), inl is)
   ends_said Write is (bytes, told, out) = (omega (arith, out.few, out.slots), inr (inl is))
   ends_said TooLong is ends = over_said ends
-  ends_said NotBuilt is ends = over_said ends
 
 -- how the three commands stop
 decoding_stops : (settings : Settings) → StopsSo (decoding settings)
@@ -143,23 +144,40 @@ module _ (A : Type 0) (max n : ℕ) where
   always_next slot why (inr (inr (inr (inl (full, e))))) = absurd (cc e)
   always_next slot why (inr (inr (inr (inr (w, e))))) = cc e
 
-said : (command : Command) (settings : Settings) (end : End) → IsSaid (IsAudit (Ok (command, settings))) settings.max end → Says (Ok (command, settings)) end
+-- the end of a series, whose outputs stand for no more slots than max
+series_said : (series : Series) (A : Type 0) (max : ℕ) → ((k : ℕ) → k ≤ series.count → series.slots k ≤ max) → (Took : List ℕ → Type 0) (end : End)
+    (status : Status) → end.status ≡ status → SeriesEnds status series Took end → IsSaid A max end
+series_said series A max few Took end Done is out = (omega (arith, few series.count (omega arith), out.slots), inr (inr (inl (inl is))))
+series_said series A max few Took end Write is out = (omega (arith, few out.k out.few, out.slots), inr (inl is))
+series_said series A max few Took end (Refused slot count) is out = absurd out
+series_said series A max few Took end (Words index why) is out = absurd out
+series_said series A max few Took end (Input slot why) is out = absurd out
+series_said series A max few Took end Read is out = absurd out
+series_said series A max few Took end TooLong is out = absurd out
+
+said : (command : Command) (settings : Settings) (end : End) → IsSaid (IsAudit (Ok (command, settings))) (most_slots command settings) end → Says (Ok (command, settings)) end
 said command settings end (few, of) =
     let A = IsAudit (Ok (command, settings)) in
-    let at : (status : Status) → end.status ≡ status → IsOf A settings.max end.slots status = λ status is. subst (IsOf A settings.max end.slots) is of in
+    let max = most_slots command settings in
+    let at : (status : Status) → end.status ≡ status → IsOf A max end.slots status = λ status is. subst (IsOf A max end.slots) is of in
     record {
-      words = (λ fault. (λ is. absurd (never_words A settings.max end.slots fault.index fault.why (at (Words fault.index fault.why) is)), λ e. absurd (cc e)));
+      words = (λ fault. (λ is. absurd (never_words A max end.slots fault.index fault.why (at (Words fault.index fault.why) is)), λ e. absurd (cc e)));
       few = few;
-      too_long = λ is. always_full A settings.max end.slots (at TooLong is);
-      refused = λ slot count is. always_audit A settings.max end.slots slot count (at (Refused slot count) is);
-      input = λ slot why is. always_next A settings.max end.slots slot why (at (Input slot why) is);
+      too_long = λ is. always_full A max end.slots (at TooLong is);
+      refused = λ slot count is. always_audit A max end.slots slot count (at (Refused slot count) is);
+      input = λ slot why is. always_next A max end.slots slot why (at (Input slot why) is);
     }
 
+at_most_once : (k n : ℕ) → k ≤ 1 → k * n ≤ n
+at_most_once zero n few = omega arith
+at_most_once (suc zero) n few = omega arith
+at_most_once (suc (suc k)) n few = absurd (omega arith)
+
 -- what the end of a command's run says
-pub command_says : (command : Command) (settings : Settings) (r0 r1 t0 t1 : Option (List ℕ)) (end : End) → IsTrue (is_built_command command)
+pub command_says : (command : Command) (settings : Settings) (r0 r1 t0 t1 : Option (List ℕ)) (end : End)
     → CommandEnds command settings r0 r1 t0 t1 end → Says (Ok (command, settings)) end
-command_says Encode settings r0 r1 t0 t1 end built ends = said Encode settings end (ends_said (encoding settings) _ (encoding_stops settings) (λ xs. inl refl) settings.max r0 r1 _ end end.status refl ends)
-command_says Decode settings r0 r1 t0 t1 end built ends = said Decode settings end (ends_said (decoding settings) _ (decoding_stops settings) (λ xs. inl refl) settings.max r0 r1 _ end end.status refl ends)
-command_says Audit settings r0 r1 t0 t1 end built ends = said Audit settings end (ends_said (auditing settings) _ (auditing_stops settings) (auditing_done settings) settings.max r0 r1 _ end end.status refl ends)
-command_says Gen settings r0 r1 t0 t1 end built ends = absurd (cc built)
-command_says Trial settings r0 r1 t0 t1 end built ends = absurd (cc built)
+command_says Encode settings r0 r1 t0 t1 end ends = said Encode settings end (ends_said (encoding settings) _ (encoding_stops settings) (λ xs. inl refl) settings.max r0 r1 _ end end.status refl ends)
+command_says Decode settings r0 r1 t0 t1 end ends = said Decode settings end (ends_said (decoding settings) _ (decoding_stops settings) (λ xs. inl refl) settings.max r0 r1 _ end end.status refl ends)
+command_says Audit settings r0 r1 t0 t1 end ends = said Audit settings end (ends_said (auditing settings) _ (auditing_stops settings) (auditing_done settings) settings.max r0 r1 _ end end.status refl ends)
+command_says Gen settings r0 r1 t0 t1 end ends = said Gen settings end (series_said (generating settings) _ settings.slots (λ k few. few) _ end end.status refl ends)
+command_says Trial settings r0 r1 t0 t1 end ends = said Trial settings end (series_said (trying settings) _ settings.slots (λ k few. at_most_once k settings.slots few) _ end end.status refl ends)

@@ -6,7 +6,7 @@ use Rattle.tetra_settings.specs.declared.blocks.SlotBlocks.{SlotBlocks}
 use Rattle.tetra_settings.specs.Blocks.{Fits}
 use Rattle.tetra_session.specs.Sent.{slot_written}
 use Rattle.tetra_engine.specs.declared.status.Status.{Status}
-use Rattle.tetra_engine.specs.declared.status.Status.TheVariants.{Done, Refused, Words, Input, Read, Write, TooLong, NotBuilt}
+use Rattle.tetra_engine.specs.declared.status.Status.TheVariants.{Done, Refused, Words, Input, Read, Write, TooLong}
 use Rattle.tetra_records.specs.Records.{why as record_why, NoneBegins}
 use Rattle.tetra_records.specs.Spelling.{spelling}
 use Rattle.tetra_engine.specs.Shapes.{Shape}
@@ -22,7 +22,6 @@ EncodingStops settings n bytes (Words index why) = ⊥
 EncodingStops settings n bytes Read = ⊥
 EncodingStops settings n bytes Write = ⊥
 EncodingStops settings n bytes TooLong = ⊥
-EncodingStops settings n bytes NotBuilt = ⊥
 
 -- a record is not empty
 pub spelling-some : (blocks : SlotBlocks) → 0 < length (spelling blocks)

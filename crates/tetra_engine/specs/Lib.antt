@@ -4,7 +4,6 @@ pub mod Working
 pub mod Lines
 pub mod Verdicts
 pub mod Slots
-pub mod Built
 pub mod Encoding
 pub mod Encoder
 pub mod Intake
@@ -13,6 +12,9 @@ pub mod Decoder
 pub mod Auditing
 pub mod Refusals
 pub mod Auditor
+pub mod Series
+pub mod Generating
+pub mod Trying
 pub mod Running
 pub mod Agreeing
 pub mod Arriving

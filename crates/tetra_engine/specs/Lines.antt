@@ -5,7 +5,7 @@ use Rattle.tetra_settings.specs.declared.types.WordWhy.TheVariants.{NoCommand, U
 use Rattle.tetra_records.specs.declared.faults.RecordFault.{RecordFault}
 use Rattle.tetra_records.specs.declared.faults.RecordFault.TheVariants.{UnknownKind, WrongKind, PadBit, Truncated}
 use Rattle.tetra_engine.specs.declared.status.Status.{Status}
-use Rattle.tetra_engine.specs.declared.status.Status.TheVariants.{Done, Refused, Words, Input, Read, Write, TooLong, NotBuilt}
+use Rattle.tetra_engine.specs.declared.status.Status.TheVariants.{Done, Refused, Words, Input, Read, Write, TooLong}
 use Rattle.tetra_engine.specs.declared.status.End.{End}
 
 abbrev pub word_text : WordWhy → List ℕ
@@ -34,7 +34,6 @@ line_by (Input slot why) slots = codes "input: slot " ++ decimal slot ++ codes "
 line_by Read slots = codes "read failed after " ++ decimal slots ++ codes " slots"
 line_by Write slots = codes "write failed after " ++ decimal slots ++ codes " slots"
 line_by TooLong slots = codes "too long: " ++ decimal slots ++ codes " slots"
-line_by NotBuilt slots = codes "not built"
 
 -- the line of an end, without a newline
 abbrev pub line_of : End → List ℕ
@@ -49,4 +48,3 @@ exit_code_of (Input slot why) = 3
 exit_code_of Read = 4
 exit_code_of Write = 5
 exit_code_of TooLong = 6
-exit_code_of NotBuilt = 8

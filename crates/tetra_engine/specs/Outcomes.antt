@@ -5,7 +5,7 @@ use Rattle.std.specs.declared.option.Option.{Option}
 use Rattle.tetra_io.specs.Streams.{next_count}
 use Rattle.tetra_io.specs.Filling.{AreTold, Went}
 use Rattle.tetra_engine.specs.declared.status.Status.{Status}
-use Rattle.tetra_engine.specs.declared.status.Status.TheVariants.{Done, Refused, Words, TooLong, Input, Read, Write, NotBuilt}
+use Rattle.tetra_engine.specs.declared.status.Status.TheVariants.{Done, Refused, Words, TooLong, Input, Read, Write}
 use Rattle.tetra_records.specs.Records.{ends_by_fault}
 use Rattle.tetra_records.specs.declared.faults.RecordFault.TheVariants.{Truncated}
 use Rattle.tetra_engine.specs.declared.status.End.{End}
@@ -85,7 +85,6 @@ EndsBy (Refused slot count) shape max old new Took end = Over old (λ bytes. Out
 EndsBy (Words index why) shape max old new Took end = Over old (λ bytes. Outcome shape max bytes Took end)
 EndsBy (Input slot why) shape max old new Took end = Over old (λ bytes. Outcome shape max bytes Took end)
 EndsBy TooLong shape max old new Took end = Over old (λ bytes. Outcome shape max bytes Took end)
-EndsBy NotBuilt shape max old new Took end = Over old (λ bytes. Outcome shape max bytes Took end)
 
 -- what was taken before the flush: all of it, or after a failed write a front
 abbrev pub TookBefore : Status → Option (List ℕ) → Option (List ℕ) → List ℕ → Type 0
@@ -96,7 +95,6 @@ TookBefore (Words index why) old new bytes = Appends old new bytes
 TookBefore (Input slot why) old new bytes = Appends old new bytes
 TookBefore Read old new bytes = Appends old new bytes
 TookBefore TooLong old new bytes = Appends old new bytes
-TookBefore NotBuilt old new bytes = Appends old new bytes
 
 -- a status at the end of the input
 abbrev pub IsEnd : Status → Type 0
@@ -107,7 +105,6 @@ IsEnd (Input slot why) = ⊥
 IsEnd Read = ⊥
 IsEnd Write = ⊥
 IsEnd TooLong = ⊥
-IsEnd NotBuilt = ⊥
 
 -- The count of ends of the source of a run: it rose by one where the run met the end of its input, and else not. Where
 -- a write or the flush failed it may have met it.
@@ -119,7 +116,6 @@ EndsMet (Input slot why) before now = now ≡ ends_by_fault why before
 EndsMet Read before now = now ≡ before
 EndsMet Write before now = (now ≡ before) ⊎ (now ≡ next_count before)
 EndsMet TooLong before now = now ≡ before
-EndsMet NotBuilt before now = now ≡ before
 
 -- A run that reads its input leaves nothing of it where it came to its end, which it met once and never read past.
 pub record ReadsOut (status : Status) (rest : Option (List ℕ)) (before now : ℕ) : Type 0 where

@@ -71,14 +71,6 @@ fn explained(before: &str, number: u64, why: &str) -> ArrayString<96>
     text
 }
 
-fn not_built() -> ArrayString<96>
-    ensures { result.bytes ≡ codes "not built" }
-{
-    let mut text = ArrayString::new();
-    add(&mut text, "not built");
-    text
-}
-
 /// The line that the program prints on standard error, without a newline: at most 96 bytes, and empty for `Done`. This
 /// project's own.
 pub fn line(end: &End) -> ArrayString<96>
@@ -92,12 +84,11 @@ pub fn line(end: &End) -> ArrayString<96>
         Status::Read => counted("read failed after ", end.slots, " slots"),
         Status::Write => counted("write failed after ", end.slots, " slots"),
         Status::TooLong => counted("too long: ", end.slots, " slots"),
-        Status::NotBuilt => not_built(),
     }
 }
 
 /// The number that the program ends with: 0 for `Done`, 1 for `Refused`, 2 for `Words`, 3 for `Input`, 4 for `Read`, 5
-/// for `Write`, 6 for `TooLong`, 8 for `NotBuilt`. This project's own.
+/// for `Write`, 6 for `TooLong`. This project's own.
 pub fn exit_code(end: &End) -> u8
     ensures { result ≡ exit_code_of end.now.status }
 {
@@ -109,6 +100,5 @@ pub fn exit_code(end: &End) -> u8
         Status::Read => 4,
         Status::Write => 5,
         Status::TooLong => 6,
-        Status::NotBuilt => 8,
     }
 }

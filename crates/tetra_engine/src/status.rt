@@ -5,7 +5,7 @@ use tetra_settings::WordWhy;
 /// Why a run ended. This project's own.
 #[derive(Clone, Copy, Debug, PartialEq, Eq)]
 pub enum Status {
-    /// The input was read to its end, and all its output was written.
+    /// The input was read to its end, and all its output was written. A command that reads nothing wrote all of it.
     Done,
     /// The same, and the audit refused `count` slots, of which `slot` is the first.
     Refused { slot: u64, count: u64 },
@@ -19,8 +19,6 @@ pub enum Status {
     Write,
     /// There are bytes behind as many slots as the words allow.
     TooLong,
-    /// The command is not built yet.
-    NotBuilt,
 }
 
 /// How a run ended.
@@ -28,6 +26,7 @@ pub enum Status {
 pub struct End {
     /// Why it ended.
     pub status: Status,
-    /// How many slots went out whole.
+    /// How many slots went out whole; of `trial` all that its words ask for, where the summary went out whole, and else
+    /// none.
     pub slots: u64,
 }

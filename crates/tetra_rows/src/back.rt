@@ -211,3 +211,20 @@ fn a_multiframe_of_a_carrier(rt: HostRuntime) -> Result<(), Fail> {
     assert_eq!(rt; (sizes.sent, sizes.read), (36_720, 3_565));
     Ok(())
 }
+
+#[test]
+fn certificate_off_the_path_of_its_message(rt: HostRuntime) -> Result<(), Fail> {
+    let alloc = rt.alloc();
+    let slot = bytes(alloc, "full")?;
+    let mut claim = run_over(alloc, "decode dir=ul form=audit", &slot, SURE, 10_000)?.output;
+    assert_eq!(rt; claim.len(), 9_798);
+    for place in 552..582usize {
+        if let Some(byte) = claim.get_mut(place) {
+            *byte = 0;
+        }
+    }
+    let judged = run_over(alloc, "audit dir=ul", &claim, SURE, 100)?;
+    assert_eq!(rt; judged.end.as_str(), "0 1 ");
+    assert!(rt; is_written(alloc, "'0_ok", &judged.output)?);
+    Ok(())
+}

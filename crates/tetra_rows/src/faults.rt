@@ -75,7 +75,7 @@ const READS: [Faults; 5] = [
     },
 ];
 
-const WRITES: [Faults; 5] = [
+const WRITES: [Faults; 6] = [
     Faults {
         words: "encode dir=ul",
         input: "46 34*00",
@@ -129,6 +129,17 @@ const WRITES: [Faults; 5] = [
             (1, 3, 0, "5 0 write failed after 0 slots"),
             (4, 4, 5, "5 1 write failed after 1 slots"),
             (5, 5, 5, "0 1 "),
+        ],
+    },
+    Faults {
+        words: "trial dir=ul slots=4",
+        input: "",
+        output: "'slots_4 'kinds_4 'good_4 'bad_0 'unchecked_0 'notyet_0 'equal_4 'differ_0 'other_0 'metric_0",
+        piece: 1,
+        calls: &[
+            (1, 84, 0, "5 0 write failed after 0 slots"),
+            (85, 85, 84, "5 4 write failed after 4 slots"),
+            (86, 86, 84, "0 4 "),
         ],
     },
 ];

@@ -11,9 +11,13 @@ mod calls;
 #[cfg(test)]
 mod carrier;
 #[cfg(test)]
+mod counted;
+#[cfg(test)]
 mod drawn;
 #[cfg(test)]
 mod faults;
+#[cfg(test)]
+mod made;
 #[cfg(test)]
 mod plain;
 #[cfg(test)]
@@ -22,5 +26,7 @@ mod rows;
 mod runs;
 #[cfg(test)]
 mod spread;
+#[cfg(test)]
+mod steps;
 #[cfg(test)]
 mod words;

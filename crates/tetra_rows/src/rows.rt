@@ -231,7 +231,7 @@ const DECODED: [Row; 19] = [
     },
 ];
 
-const AUDITED: [Row; 32] = [
+const AUDITED: [Row; 36] = [
     Row {
         words: "audit dir=ul",
         input: "510*00 46 42 00 00 36*00 9248*00",
@@ -369,6 +369,31 @@ const AUDITED: [Row; 32] = [
         input: "510*00 46 55 00 00 00 04 42 00 00 36*00 9248*00",
         output: "'0_refused_field_0_bits",
         end: "1 1 refused: first slot 0, count 1",
+    },
+    Row {
+        words: "audit",
+        input: "510*00 46 55 00 00 00 00 42 00 00 36*00 9248*FF",
+        output: "'0_refused_field_1_step_288_state_0_end",
+        end: "1 1 refused: first slot 0, count 1",
+    },
+    Row {
+        words: "audit",
+        input: "510*00 48 55 00 00 00 00 42 00 00 36*00 9248*00 \
+            510*00 46 55 00 00 00 00 42 00 00 36*00 9248*00",
+        output: "'0_refused_kind '1_ok",
+        end: "1 2 refused: first slot 0, count 1",
+    },
+    Row {
+        words: "audit",
+        input: "510*00 48 55 00 00 00 00 42 00 00 36*00 9247*00",
+        output: "",
+        end: "3 0 input: slot 0: truncated",
+    },
+    Row {
+        words: "audit",
+        input: "7F 509*00 46 55 00 00 00 00 42 00 00 36*00 9248*00",
+        output: "'0_ok",
+        end: "0 1 ",
     },
     Row {
         words: "audit dir=ul ts1=d72",

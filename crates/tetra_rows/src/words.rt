@@ -3,7 +3,7 @@
 use crate::runs::{Ends, SURE, run_over};
 use std::test::Fail;
 
-const ENDS: [(&str, &str); 34] = [
+const ENDS: [(&str, &str); 33] = [
     ("", "2 0 word 0: no command"),
     ("code", "2 0 word 0: unknown command"),
     ("Encode", "2 0 word 0: unknown command"),
@@ -40,10 +40,6 @@ const ENDS: [(&str, &str); 34] = [
     ("encode ts1=cb dir=dl", "2 0 word 1: uplink only"),
     ("encode ts2=sig ts1=cb ts3=cb", "2 0 word 2: uplink only"),
     ("encode ts1=cb cc=64", "2 0 word 2: out of range"),
-    (
-        "gen dir=ul draw=18446744073709551615 slots=1000000",
-        "8 0 not built",
-    ),
 ];
 
 #[test]

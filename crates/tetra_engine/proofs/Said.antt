@@ -1,5 +1,5 @@
 -- What an end says of its words and of the number of its slots, over any source.
-use Rattle.std.proofs.Common.{◌≡◌, ◌⊎◌, ℕ, zero, suc, ◌+◌, ◌*◌, ◌<◌, ◌≤◌, ◌==◌, List, [], ◌∷◌, ◌++◌, length, refl, sym, inl, inr, subst, arith, length-append, Option, Bool, true, false, MatchBool, Ok, IsTrue}
+use Rattle.std.proofs.Common.{◌≡◌, ◌⊎◌, ℕ, zero, suc, ◌+◌, ◌*◌, ◌<◌, ◌≤◌, ◌==◌, List, [], ◌∷◌, ◌++◌, length, refl, sym, inl, inr, subst, arith, length-append, Option, Bool, true, false, MatchBool, Ok}
 use Rattle.std.proofs.lemmas.Bool.{eqb-true}
 use Rattle.tetra_settings.specs.declared.types.Command.{Command}
 use Rattle.tetra_settings.specs.declared.types.Command.TheVariants.{Encode, Decode, Audit, Gen, Trial}

@@ -1,5 +1,5 @@
 -- How the outputs of a series are written, and how its run ends.
-use Rattle.std.proofs.Common.{◌≡◌, ◌≢◌, ◌⊎◌, ℕ, zero, suc, ◌+◌, ◌<◌, ◌≤◌, List, [], ◌∷◌, ◌++◌, length, take, refl, ap, sym, ◌∙◌, inl, inr, arith, append_assoc, append-nil, None, Some, subst}
+use Rattle.std.proofs.Common.{◌≡◌, ◌≢◌, ℕ, zero, suc, ◌+◌, ◌<◌, List, [], ◌∷◌, ◌++◌, take, refl, ap, sym, ◌∙◌, inl, inr, arith, append_assoc, append-nil, None, Some, subst}
 use Rattle.std.specs.declared.option.Option.{Option}
 use Rattle.std.specs.Io.KnownBytes.{Appends}
 use Rattle.std.specs.List.{flat_map, range_with_len}
@@ -10,7 +10,7 @@ use Rattle.tetra_engine.specs.declared.status.End.{End}
 use Rattle.tetra_engine.specs.declared.status.Status.{Status}
 use Rattle.tetra_engine.specs.declared.status.Status.TheVariants.{Done, Refused, Words, TooLong, Input, Read, Write}
 use Rattle.tetra_engine.specs.Outcomes.{TookBefore, Grows}
-use Rattle.tetra_engine.specs.Series.{Series, SeriesEnds, SeriesFront, SeriesOutcome, IsFrontOfOutput, first_outputs}
+use Rattle.tetra_engine.specs.Series.{Series, SeriesEnds, SeriesFront, IsFrontOfOutput, first_outputs}
 use Rattle.tetra_engine.proofs.Runs.{grows_on}
 
 range-push : (a n : ℕ) → range_with_len a (suc n) ≡ range_with_len a n ++ (a + n) ∷ []

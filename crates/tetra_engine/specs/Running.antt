@@ -1,5 +1,5 @@
 -- How a run ends, by its words and the bytes that are told.
-use Rattle.std.specs.Prelude.{◌≡◌, ◌↔◌, ℕ, ◌<◌, ◌≤◌, Bool, true, false, List, Ok, Err, Result, IfOk, MatchResult, ⊤}
+use Rattle.std.specs.Prelude.{◌≡◌, ◌↔◌, ℕ, ◌<◌, ◌≤◌, List, Ok, Err, Result, IfOk, MatchResult, ⊤}
 use Rattle.std.specs.declared.option.Option.{Option}
 use Rattle.tetra_settings.specs.declared.types.Command.{Command}
 use Rattle.tetra_settings.specs.declared.types.Command.TheVariants.{Encode, Decode, Audit, Gen, Trial}

@@ -1,10 +1,9 @@
 -- What a receiver answers by what it keeps.
-use Rattle.std.proofs.Common.{ℕ, ℤ, ◌≡◌, ◌≤◌, List, Option, length, map, drop, Bool, All, arith, refl, sym, ap, ◌∙◌}
+use Rattle.std.proofs.Common.{ℕ, ℤ, ◌≡◌, ◌≤◌, List, Option, length, map, Bool, All, refl, sym, ap, ◌∙◌}
 use Rattle.std.specs.Prelude.{IfSome}
-use Rattle.std.proofs.lemmas.List.{length-map, take-append-le, take_all}
 use Rattle.std.proofs.lemmas.List.Elements.{All-map, All-weaker}
 use Rattle.std.proofs.lemmas.Simd.{map-map}
-use Rattle.arrayvec.specs.ArrayVec.{ArrayVec, with_items}
+use Rattle.arrayvec.specs.ArrayVec.{ArrayVec}
 use Rattle.tetra_bits.specs.Soft.{AllWithin}
 use Rattle.tetra_bursts.specs.Fields.{FieldsHaveSizes}
 use Rattle.tetra_scramble.specs.Key.{key_of}

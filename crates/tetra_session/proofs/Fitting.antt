@@ -1,7 +1,7 @@
 -- What blocks that fit a slot are.
-use Rattle.std.proofs.Common.{ℕ, ◌-◌, ◌<◌, ◌≡◌, ◌≢◌, Bool, true, List, length, refl, sym, ◌∙◌, IsTrue, Option, Some, None, IfSome}
+use Rattle.std.proofs.Common.{ℕ, ◌<◌, ◌≡◌, ◌≢◌, Bool, List, length, refl, sym, ◌∙◌, IsTrue, Option, Some, None, IfSome}
 use Rattle.tetra_settings.specs.Blocks.{Fits, FitsAccess, HasLengths, IsTrafficMode, load_bits}
-use Rattle.tetra_settings.specs.Slots.{use_of, use_in, mode_of, frame_of, timeslot_of, is_allowed}
+use Rattle.tetra_settings.specs.Slots.{use_of, use_in, mode_of, frame_of, is_allowed}
 use Rattle.tetra_settings.specs.declared.types.Dir.{Dir}
 use Rattle.tetra_settings.specs.declared.types.Dir.TheVariants.{Dl, Ul}
 use Rattle.tetra_settings.specs.declared.types.Mode.{Mode}

@@ -1,23 +1,17 @@
 -- What one timeslot of a receiver keeps, one slot on.
-use Rattle.std.proofs.Common.{ℕ, ◌+◌, ◌-◌, ◌≤◌, ◌≡◌, ◌≢◌, Bool, true, false, List, [], ◌∷◌, ◌++◌, Option, None, Some, ℤ, length, get_or, set, arith, refl, sym, ap, ◌∙◌}
+use Rattle.std.proofs.Common.{ℕ, ◌+◌, ◌-◌, ◌≤◌, ◌≡◌, ◌≢◌, Bool, List, [], ◌∷◌, ◌++◌, Option, ℤ, length, get_or, set, arith, sym, ap, ◌∙◌}
 use Rattle.std.proofs.lemmas.List.{length_push}
 use Rattle.tetra_diag.specs.Diagonal.{gathered}
 use Rattle.tetra_scramble.specs.Key.{key_of}
-use Rattle.tetra_settings.specs.Readings.{traffic_name}
 use Rattle.tetra_settings.specs.Slots.{timeslot_of, mode_of, use_of}
-use Rattle.tetra_settings.specs.declared.readings.FieldName.{FieldName}
-use Rattle.tetra_settings.specs.declared.readings.FieldName.TheVariants.{Whole}
-use Rattle.tetra_settings.specs.declared.types.Dir.{Dir}
 use Rattle.tetra_settings.specs.declared.types.Mode.{Mode}
 use Rattle.tetra_settings.specs.declared.types.Settings.{Settings}
 use Rattle.tetra_settings.specs.declared.slots.SlotUse.TheVariants.{Traffic}
-use Rattle.tetra_session.specs.Heard.{GatherLaneStands, ReceiverStands, place_values, word_heard, words_heard, block_heard}
-use Rattle.tetra_session.specs.Spots.{place}
+use Rattle.tetra_session.specs.Heard.{GatherLaneStands, ReceiverStands, word_heard, words_heard, block_heard}
 use Rattle.tetra_session.specs.Time.{timeslot_mode, depth}
 use Rattle.tetra_session.specs.declared.gathering.GatherLane.{GatherLane}
 use Rattle.tetra_session.specs.declared.gathering.GatherLane.TheVariants.{Still, One, Four, Eight}
 use Rattle.tetra_session.specs.declared.receiver.Receiver.{Receiver}
-use Rattle.tetra_session.specs.declared.spots.Spot.TheVariants.{WholeSlot}
 use Rattle.tetra_session.specs.lemmas.FourSteps.{four_silent, four_taken, four_now}
 
 -- where nothing is spread every list of words will do

@@ -1,5 +1,5 @@
 -- What the fields in front of the load tell of its place.
-use Rattle.std.proofs.Common.{ℕ, ◌≡◌, ◌-◌, ◌∷◌, [], Bool, List, ℤ, Option, None, Some, length, map, get_or, pos, refl, sym, ap, ◌∙◌}
+use Rattle.std.proofs.Common.{◌≡◌, ◌-◌, Bool, List, ℤ, None, Some, length, map, get_or, pos, refl, ap, ◌∙◌}
 use Rattle.std.specs.Prelude.{IfSome, MatchOption, slice_get, false}
 use Rattle.tetra_channels.specs.Channels.{half, type4_place, front_values}
 use Rattle.tetra_channels.specs.Fields.{coded_reading}

@@ -1,5 +1,5 @@
 -- Lists that are filled, and lists that are written over.
-use Rattle.std.proofs.Common.{ℕ, ◌≡◌, ◌+◌, ◌-◌, ◌<◌, ◌≤◌, List, [], ◌∷◌, ◌++◌, Bool, true, false, Option, None, Some, length, map, take, drop, set, get_or, arith, refl, sym, ap, ◌∙◌, append_assoc, length-append, length-drop}
+use Rattle.std.proofs.Common.{ℕ, ◌≡◌, ◌+◌, ◌-◌, ◌<◌, ◌≤◌, List, [], ◌∷◌, ◌++◌, Option, None, Some, length, map, take, drop, set, get_or, arith, sym, ap, ◌∙◌, append_assoc, length-append, length-drop}
 use Rattle.std.specs.Int.{from_bool}
 use Rattle.std.specs.Prelude.{MatchOption, is_some}
 use Rattle.std.proofs.lemmas.List.{take_more, take_all, take-append-le, drop_more, drop_all, append-nil, map-append, set_at, length-map, length-set}

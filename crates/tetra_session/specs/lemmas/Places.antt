@@ -20,7 +20,7 @@ use Rattle.tetra_settings.specs.declared.slots.Letter.{Letter}
 use Rattle.tetra_settings.specs.declared.slots.Letter.TheVariants.{F, H, S, T, P, C}
 use Rattle.tetra_settings.specs.declared.slots.SlotUse.{SlotUse}
 use Rattle.tetra_settings.specs.declared.slots.SlotUse.TheVariants.{Signalling, Traffic}
-use Rattle.tetra_settings.specs.declared.readings.FieldName.TheVariants.{Aach, Sync, Half, Hu, Full, D72 as D72Field, D48 as D48Field, D24 as D24Field, Whole, Single}
+use Rattle.tetra_settings.specs.declared.readings.FieldName.TheVariants.{Aach, Sync, Half, Hu, Full, Whole, Single}
 use Rattle.tetra_session.specs.Heard.{allowed_in, letter_by, letter_heard}
 use Rattle.tetra_session.specs.Spots.{place, rest_spot, load_place, places_before_load, places_of, with_load, is_downlink, FitsSpot, ArePlaces}
 use Rattle.tetra_session.specs.declared.spots.Place.{Place}

@@ -26,7 +26,6 @@ use Rattle.tetra_session.specs.Readers.{read_field}
 use Rattle.tetra_session.specs.Spots.{place, rest_spot, load_place, places_before_load, places_of, with_load, is_downlink}
 use Rattle.tetra_session.specs.Time.{depth, span_slots}
 use Rattle.tetra_session.specs.declared.spots.Place.{Place}
-use Rattle.tetra_session.specs.declared.spots.Spot.{Spot}
 use Rattle.tetra_session.specs.declared.spots.Spot.TheVariants.{WholeSlot}
 
 span_some : (span : Span) → 1 ≤ span_slots span

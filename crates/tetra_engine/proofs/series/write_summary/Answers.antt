@@ -1,4 +1,4 @@
-use Rattle.std.proofs.Common.{rules, ◌≡◌, ◌∙◌, ◌*◌, ℕ, subst, arith, refl}
+use Rattle.std.proofs.Common.{rules, ◌≡◌, ◌*◌, subst, arith}
 use Rattle.std.proofs.KnownBytes.{Appends-nil}
 use Rattle.tetra_engine.specs.declared.status.Status.TheVariants.{Write}
 use Rattle.tetra_engine.specs.Outcomes.{Grows}

@@ -1,4 +1,4 @@
-use Rattle.std.proofs.Common.{◌≡◌, inl, inr, List, Bool, length, drop, ap, refl, ◌∙◌}
+use Rattle.std.proofs.Common.{◌≡◌, inl, inr, length, drop, ap, refl, ◌∙◌}
 use Rattle.tetra_scramble.specs.lemmas.Entries.{length-flipped}
 use Rattle.tetra_session.specs.Sent.{load_word, rest_word}
 use Rattle.tetra_session.proofs.spreading.rest_word.Goals as goal

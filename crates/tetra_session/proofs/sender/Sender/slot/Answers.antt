@@ -4,7 +4,7 @@ use Rattle.tetra_bits.specs.declared.bits.Bits.{Bits}
 use Rattle.tetra_bursts.specs.declared.table.Train.TheVariants.{N, P}
 use Rattle.tetra_channels.specs.Channels.{half, type5_bits}
 use Rattle.tetra_settings.specs.Slots.{timeslot_of, mode_of}
-use Rattle.tetra_session.specs.Sent.{Normal, Synchronisation, Subslots, burst_of, blocks_sent, subslot_bits, whole, load_of, load_word, rest_word}
+use Rattle.tetra_session.specs.Sent.{Normal, Synchronisation, Subslots, burst_of, blocks_sent, subslot_bits, whole, load_of, load_word}
 use Rattle.tetra_session.proofs.Fitting.{access_there, fits_traffic, fits_stolen, fits_both, full_no_traffic, halves_no_traffic, sync_no_traffic, subslots_no_traffic}
 use Rattle.tetra_session.proofs.Lanes.{stands_silent, stands_taken, lane_now}
 use Rattle.tetra_session.proofs.Sending.{slot_is, slot_of_sync, slot_of_subs}

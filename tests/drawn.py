@@ -1,8 +1,19 @@
 """What the tests of files draw: the words of PCG32, slots with signs turned as `trial` turns them, and the words of runs over
-all modes."""
+all modes; and the program that the tests run."""
+import os
+import pathlib
+import sys
 
 SLOT = 510
 MODES = ("sig", "d72", "d48n1", "d48n4", "d48n8", "d24n1", "d24n4", "d24n8", "speech")
+
+
+def program_at(path):
+    """The program of the command line, or an end with one line where there is none."""
+    program = pathlib.Path(path).resolve()
+    if not (program.is_file() and os.access(program, os.X_OK)):
+        sys.exit(f"there is no program at {path}: 'rt ci' or examples/run builds it")
+    return str(program)
 
 
 def words(draw, stream):

@@ -110,7 +110,11 @@ fn counted(alloc: Global, records: &[u8], readings: &[u8]) -> Result<String, Fai
     };
     let (mut blocks, mut found, mut slots) = (records, readings, 0u32);
     let mut loads: Vec<&[u8]> = Vec::new(alloc);
-    while let Some((letter, behind)) = blocks.split_first() {
+    // A record has one byte at least.
+    for _ in 0..records.len() {
+        let Some((letter, behind)) = blocks.split_first() else {
+            break;
+        };
         let (block_size, read_size) = sizes(*letter);
         let (sent, more) = cut(behind, block_size);
         let (read, rest) = cut(found, read_size.saturating_add(1));

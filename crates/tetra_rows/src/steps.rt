@@ -20,8 +20,8 @@ fn row_before_last(rt: &impl Abort, values: [i16; 4], after: &[u32; 16]) -> [u32
         wide.push(value);
     }
     assert!(rt; wide.len() == 320);
-    for entry in after {
-        assert!(rt; *entry <= 1 << 31);
+    for s in 0..16usize {
+        assert!(rt; after[s] <= 1 << 31);
     }
     lane_row::<TwoThirds<80, 120>, false>(&wide, &Labels::of::<Quarter>(), 79, after).row
 }

@@ -215,9 +215,10 @@ static void audits(void)
 
 /* The numbers of values, bits and rows of each channel that has a certificate. */
 static const struct { uint8_t channel; unsigned values, bits, rows; } channels[] = {
-    {TETRA_SYNC, 120, 76, 81},    {TETRA_HALF, 216, 140, 145},      {TETRA_HU, 168, 108, 113},
-    {TETRA_FULL, 432, 284, 289},  {TETRA_DATA48, 432, 288, 293},    {TETRA_DATA24, 432, 144, 149},
-    {TETRA_TWO_FRAMES, 330, 180, 185}, {TETRA_ONE_FRAME, 165, 90, 95},
+    {TETRA_FIELD_SYNC, 120, 76, 81},    {TETRA_FIELD_HALF, 216, 140, 145},
+    {TETRA_FIELD_HU, 168, 108, 113},    {TETRA_FIELD_FULL, 432, 284, 289},
+    {TETRA_FIELD_D48, 432, 288, 293},   {TETRA_FIELD_D24, 432, 144, 149},
+    {TETRA_FIELD_WHOLE, 330, 180, 185}, {TETRA_FIELD_SINGLE, 165, 90, 95},
 };
 
 /* Values that say nothing: a message of zeros is the first-least one, and a table of zeros shows it. */
@@ -228,8 +229,8 @@ static void checks(void)
     memset(now.message, 0, sizeof now.message);
     memset(now.potentials, 0, sizeof now.potentials);
     memcpy(&good, &now, sizeof now);
-    REFUSED(TETRA_FIELD, , CHECK(TETRA_AACH, 30, 14, 1));
-    REFUSED(TETRA_FIELD, , CHECK(TETRA_DATA72, 432, 432, 1));
+    REFUSED(TETRA_FIELD, , CHECK(TETRA_FIELD_AACH, 30, 14, 1));
+    REFUSED(TETRA_FIELD, , CHECK(TETRA_FIELD_D72, 432, 432, 1));
     REFUSED(TETRA_FIELD, , CHECK(10, 432, 284, 289));
     REFUSED(TETRA_FIELD, now.message[0] = 2, CHECK(255, 0, 1, 0));
     for (unsigned k = 0; k < sizeof channels / sizeof channels[0]; k++) {

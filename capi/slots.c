@@ -29,11 +29,12 @@ static void want(int holds, const char *what)
 /* What a reading says, as the bytes of its record. */
 static size_t spelled(const struct tetra_reading *reading, int with_certificates, uint8_t *bytes)
 {
+    static const uint8_t marks[] = {[TETRA_GOOD] = 'G', [TETRA_BAD] = 'B', [TETRA_UNCHECKED] = 'U', [TETRA_NOT_YET] = 'N'};
     uint8_t *next = bytes;
     *next++ = reading->letter;
     for (int f = 0; f < reading->count; f++) {
         const struct tetra_field *field = &reading->fields[f];
-        *next++ = (uint8_t)"GBUN"[field->mark];
+        *next++ = marks[field->mark & 3];
         *next++ = (uint8_t)(field->metric >> 8);
         *next++ = (uint8_t)field->metric;
         for (int bit = 0; bit < field->bits; bit++) {

@@ -69,18 +69,18 @@ enum tetra_mode {
     TETRA_SPEECH = 9  /* speech */
 };
 
-/* What a field is. */
+/* What a field is; the names are those of docs/FORMATS.md. */
 enum tetra_field_name {
-    TETRA_AACH = 0,      /* access field, 14 bits, no certificate */
-    TETRA_SYNC = 1,      /* BSCH, 60 bits and 16 of parity */
-    TETRA_HALF = 2,      /* half a slot, SCH/HD, BNCH or STCH: 124 bits and 16 of parity */
-    TETRA_HU = 3,        /* SCH/HU, 92 bits and 16 of parity */
-    TETRA_FULL = 4,      /* SCH/F, 268 bits and 16 of parity */
-    TETRA_DATA72 = 5,    /* TCH/7.2, 432 bits, no certificate */
-    TETRA_DATA48 = 6,    /* TCH/4.8, 288 bits */
-    TETRA_DATA24 = 7,    /* TCH/2.4, 144 bits */
-    TETRA_TWO_FRAMES = 8, /* speech in a whole slot: frames A and B, 137 bits each, and 8 of parity */
-    TETRA_ONE_FRAME = 9  /* speech in half a slot: a frame, 137 bits, and 4 of parity */
+    TETRA_FIELD_AACH = 0,   /* access field, 14 bits, no certificate */
+    TETRA_FIELD_SYNC = 1,   /* BSCH, 60 bits and 16 of parity */
+    TETRA_FIELD_HALF = 2,   /* half a slot, SCH/HD, BNCH or STCH: 124 bits and 16 of parity */
+    TETRA_FIELD_HU = 3,     /* SCH/HU, 92 bits and 16 of parity */
+    TETRA_FIELD_FULL = 4,   /* SCH/F, 268 bits and 16 of parity */
+    TETRA_FIELD_D72 = 5,    /* TCH/7.2, 432 bits, no certificate */
+    TETRA_FIELD_D48 = 6,    /* TCH/4.8, 288 bits */
+    TETRA_FIELD_D24 = 7,    /* TCH/2.4, 144 bits */
+    TETRA_FIELD_WHOLE = 8,  /* speech in a whole slot: frames A and B, 137 bits each, and 8 of parity */
+    TETRA_FIELD_SINGLE = 9  /* speech in half a slot: a frame, 137 bits, and 4 of parity */
 };
 
 enum tetra_mark {
@@ -282,15 +282,15 @@ int32_t tetra_receiver_audit(struct tetra_receiver *receiver, const int8_t slot[
  * these values among all messages of the channel, the first in bit order among those of the same metric, and that
  * potentials[0].states[0] is its metric. Values are in type-3 order (docs/FORMATS.md). Of speech it is about the coded part.
  *
- *   channel            values  bits  rows
- *   TETRA_SYNC            120    76    81
- *   TETRA_HALF            216   140   145
- *   TETRA_HU              168   108   113
- *   TETRA_FULL            432   284   289
- *   TETRA_DATA48          432   288   293
- *   TETRA_DATA24          432   144   149
- *   TETRA_TWO_FRAMES      330   180   185
- *   TETRA_ONE_FRAME       165    90    95
+ *   channel             values  bits  rows
+ *   TETRA_FIELD_SYNC       120    76    81
+ *   TETRA_FIELD_HALF       216   140   145
+ *   TETRA_FIELD_HU         168   108   113
+ *   TETRA_FIELD_FULL       432   284   289
+ *   TETRA_FIELD_D48        432   288   293
+ *   TETRA_FIELD_D24        432   144   149
+ *   TETRA_FIELD_WHOLE      330   180   185
+ *   TETRA_FIELD_SINGLE     165    90    95
  *
  *   TETRA_FIELD   `channel` is none of these
  *   TETRA_LENGTH  the numbers of values, bits and rows are not those of the channel

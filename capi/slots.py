@@ -85,7 +85,7 @@ class TetraAudit(ctypes.Structure):
     _fields_ = [("test", c_uint8), ("field", c_uint8), ("certificate", TetraVerdict)]
 
 
-STRUCTS = ctypes.Structure.__subclasses__()
+STRUCTS = [kind for kind in ctypes.Structure.__subclasses__() if kind.__module__ == __name__]
 
 CALLS = {
     "tetra_sender_init": [Pointer(TetraSender), Pointer(TetraSettings)],

@@ -14,7 +14,7 @@ use Rattle.tetra_bits.specs.Order.{bit_at}
 use Rattle.tetra_bits.specs.Sums.{add2, bit_number}
 use Rattle.tetra_bits.specs.Digits.{digit, digits}
 use Rattle.tetra_scramble.specs.Key.{distances, sum2_over, past, key_bit}
-use Rattle.tetra_scramble.specs.Register.{number_of, window, KeyStands}
+use Rattle.tetra_scramble.specs.Register.{number_of, window}
 use Rattle.tetra_scramble.specs.declared.register.TheConstants.{MASKS}
 use Rattle.tetra_scramble.proofs.Numbers.{number_of-lt, number_of-same, number_of-cat, number_of-digit}
 

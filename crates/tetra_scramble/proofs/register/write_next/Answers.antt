@@ -1,5 +1,4 @@
-use Rattle.std.proofs.Common.{◌≡◌, ◌+◌, ◌<◌, false, nat_eq, get_or, bit_and, arith, ◌∙◌}
-use Rattle.std.specs.Int.Count.{ones}
+use Rattle.std.proofs.Common.{◌≡◌, ◌+◌, ◌<◌, false, arith, ◌∙◌}
 use Rattle.tetra_bits.specs.lemmas.InPlace.{begins_set}
 use Rattle.tetra_scramble.specs.Key.{key_bit}
 use Rattle.tetra_scramble.proofs.Window.{sum_is_bit, newest-none, next_more, next_window}

@@ -14,7 +14,7 @@ number_of f k (suc n) = bit_number (f k) * 2 ^ n + number_of f (suc k) n
 unfoldable pub window : List Bool → ℕ → ℕ
 window e n = number_of (bit_at (past e n)) 0 32
 
--- the first n bits of the key of e stand in a list, and a register holds the last 32 of them
+-- the first n bits of the key of e stand in a list, and a register holds p(n) and the 31 bits before it
 pub record KeyStands (e : List Bool) (n register : ℕ) (bits : List Bool) : Type 0 where
   pub written : (k : ℕ) → k < n → bit_at bits k ≡ key_bit e (k + 1)
   pub last : register ≡ window e n

@@ -11,12 +11,8 @@ use Rattle.tetra_bits.specs.Sums.{bit_number}
 use Rattle.tetra_bits.specs.Digits.{digit, digits}
 use Rattle.tetra_scramble.specs.Colour.{IsColour, colour_bits}
 use Rattle.tetra_scramble.specs.Key.{no_colour}
+use Rattle.tetra_scramble.specs.Register.{number_of}
 use Rattle.tetra_scramble.specs.declared.colour.Colour.{Colour}
-
--- the number of the n digits f k, f (k + 1) and so on
-unfoldable pub number_of : (ℕ → Bool) → ℕ → ℕ → ℕ
-number_of f k zero = 0
-number_of f k (suc n) = bit_number (f k) * 2 ^ n + number_of f (suc k) n
 
 first_digit : (b : Bool) (p n : ℕ) → n < p → bit_number b * p + n < 2 * p
 first_digit true p n h = omega arith

@@ -1,30 +1,20 @@
-use Rattle.std.proofs.Common.{◌≡◌, length, arith, ap, sym, ◌∙◌}
-use Rattle.tetra_bits.specs.Numbered.{numbered, numbered_none, numbered_push, length-numbered}
+use Rattle.std.proofs.Common.{false, length, arith, ap, ◌*◌, ◌∙◌}
+use Rattle.std.proofs.Math.ListN.{length-replicate}
 use Rattle.tetra_bits.specs.Digits.{digits}
+use Rattle.tetra_bits.specs.lemmas.InPlace.{begins_all}
 use Rattle.tetra_scramble.specs.Key.{key_bit, key_from}
-use Rattle.tetra_scramble.proofs.Window.{sum_is_bit, next_register, first_window}
+use Rattle.tetra_scramble.proofs.Window.{first_window}
 use Rattle.tetra_scramble.proofs.register.key_of_number.Goals as goal
 
-pub loop-init : goal.loop-init
-loop-init c =
-    record { bits = c.new-bits.ensures ∙ sym (numbered_none (key_bit (digits 30 c.args.number))); window = first_window c.args.number c.requires }
-
-pub push-requires : goal.push-requires
-push-requires c = omega (arith, ap length c.loop.invariant.bits, length-numbered (key_bit (digits 30 c.args.number)) c.loop.counter)
-
-pub loop-preserved : goal.loop-preserved
-loop-preserved c =
-    let next = sum_is_bit (digits 30 c.args.number) c.loop.counter c.loop.register c.loop.invariant.window in
+pub loop-chunk-init : goal.loop-chunk-init
+loop-chunk-init c =
     record {
-      bits = numbered_push (key_bit (digits 30 c.args.number)) c.loop.counter _ _ _ c.loop.invariant.bits c.push.ensures.list next;
-      window = next_register (digits 30 c.args.number) c.loop.counter c.loop.register _ c.from.result c.loop.invariant.window next c.from.ensures;
+      size = ap length c.zeros-bits.ensures ∙ length-replicate 432 false;
+      key = record { written = λ k h. absurd (omega (arith, h)); last = first_window c.args.number c.requires };
     }
-
-pub of_bits-requires : goal.of_bits-requires
-of_bits-requires c = ap length c.loop.invariant.bits ∙ length-numbered (key_bit (digits 30 c.args.number)) c.loop.counter ∙ omega arith
 
 pub returns : goal.returns
 unfolding key_from
 returns c =
-    let whole : c.loop.counter ≡ 432 = omega arith in
-    c.of_bits.ensures ∙ c.loop.invariant.bits ∙ ap (numbered (key_bit (digits 30 c.args.number))) whole
+    c.of_bits.ensures
+    ∙ begins_all (key_bit (digits 30 c.args.number)) false 432 (16 * c.loop-chunk.chunk) c.loop-chunk.bits c.loop-chunk.invariant.size c.loop-chunk.invariant.key.written (omega (arith, c.loop-chunk-test.false))

@@ -1,13 +1,20 @@
-"""Files of cases: slots that are drawn, each with what the program says of it, for the programs of this folder to compare with
-the library.
+"""Files of cases: slots that are drawn, each with what the program says of it, for the programs of this folder to compare
+with the library.
 
-A file is the number of its rows (2 bytes) and then the rows. A row is its settings (country 2 bytes, network 2, colour 1, direction
-1, four modes, place 2), the number of its slots (2) and then the slots. A slot is its blocks (letter 1, access message 2,
-two bytes for the subslots, and for three fields the number of bits, 2, and a byte for each bit), the 510 bytes that `encode` writes, the
-510 that are received, the records of `decode` without and with certificates (length 2, and the bytes), where the second is
-changed and by which byte (2 and 1), what `audit` says of it then (test 1, field 1, step 2, state 1, rule 1), and the number
-of its checks (1). A check is a certificate by itself: channel 1, values (number 2, a byte each), message (number 2, a byte for each bit),
-rows (number 2, 32 bytes each), and what the rules say (step 2, state 1, rule 1). Numbers are big-endian.
+A file is the number of its rows (2 bytes) and then the rows. A row is its settings (country 2 bytes, network 2, colour 1,
+direction 1, four modes, place 2), the number of its slots (2) and then the slots. A slot is
+
+- its blocks: letter 1, access message 2, a byte for each subslot, and for three fields the number of bits, 2, and a byte
+  for each bit;
+- the 510 bytes that `encode` writes, and the 510 that are received;
+- the records of `decode`, without and with certificates, each a length of 2 and its bytes;
+- where the second is changed, 2, which byte stands there then, 1, and what `audit` says of it then: test 1, field 1,
+  step 2, state 1, rule 1;
+- the number of its checks, 1, and then these. A check is a certificate by itself: channel 1, values (number 2, a byte
+  each), message (number 2, a byte for each bit), rows (number 2, 32 bytes each), and what the rules say: step 2, state 1,
+  rule 1.
+
+Numbers are big-endian.
 """
 import io
 import pathlib
@@ -104,6 +111,14 @@ def record_of(reading, with_certificates):
     return bytes(out)
 
 
+def parsed(file, settings, form):
+    """The readings of a file, which are all of its bytes."""
+    found = list(readings(io.BytesIO(file), settings, form))
+    if b"".join((reading.soft or b"") + record_of(reading, form == "audit") for reading in found) != file:
+        sys.exit(f"{settings}: the records of decode are not what was read of them")
+    return found
+
+
 def change_of(reading, size, draw):
     """The place of a byte of a record, half of the time outside certificates, and what it is turned by."""
     places, at = [0], 1
@@ -151,6 +166,36 @@ def settings_bytes(settings, slots):
     return struct.pack(">HHBB4BHH", settings.mcc, settings.mnc, settings.cc, direction, *modes, settings.at, slots)
 
 
+def parts_as(reading, claim):
+    """A claim cut as the reading is whose place it has."""
+    parts, at = [], 1
+    for part in reading.parts:
+        end = at + 3 + len(part.bits)
+        behind = end + len(part.certificate or b"")
+        told = {"mark": claim[at], "metric": int.from_bytes(claim[at + 1 : at + 3], "big"), "bits": claim[at + 3 : end]}
+        parts.append(part._replace(**told, certificate=claim[end:behind] if part.certificate else None))
+        at = behind
+    return reading._replace(parts=parts)
+
+
+def doubted(program, words, found, draw):
+    """For each reading of an audit file its record, the record with a byte changed, and what `audit` says of that."""
+    records = [record_of(reading, True) for reading in found]
+    claims = []
+    for reading, record in zip(found, records):
+        place, turn = change_of(reading, len(record), draw)
+        claims.append(record[:place] + bytes([record[place] ^ turn]) + record[place + 1 :])
+    file = b"".join(reading.soft + claim for reading, claim in zip(found, claims))
+    lines = run(program, f"audit {words}", file).splitlines()
+    return list(zip(records, claims, map(verdict_of, lines), strict=True))
+
+
+def heard_as(receiver, slot, reading):
+    """The values of each field of a slot, in type-3 order."""
+    good = [part.mark == ord("G") for part in reading.parts if part.name == "half"]
+    return receiver.front(slot, coding.values_of(reading.soft), lambda _: good[-1])[1]
+
+
 def row_of(program, words, number, slots):
     """A row: blocks that the program draws from `number`, and what it says of them."""
     settings, _ = settings_of(words.split())
@@ -158,46 +203,19 @@ def row_of(program, words, number, slots):
     blocks = run(program, f"gen {words} draw={number} slots={slots}")
     sent = run(program, f"encode {words}", blocks)
     received = heard(sent, draw)
-    claims = run(program, f"decode {words} form=audit", received)
-    plain = list(readings(io.BytesIO(run(program, f"decode {words}", received)), settings))
-    found = list(readings(io.BytesIO(claims), settings, "audit"))
-    records = [record_of(reading, True) for reading in found]
-    changes = [change_of(reading, len(record), draw) for reading, record in zip(found, records)]
-    doubted = bytearray(b"".join(reading.soft + record for reading, record in zip(found, records)))
-    if doubted != claims:
-        sys.exit(f"decode {words}: the records are not what was read of them")
-    at = 0
-    for record, (place, turn) in zip(records, changes):
-        doubted[at + SLOT + place] ^= turn
-        at += SLOT + len(record)
-    verdicts = [verdict_of(line) for line in run(program, f"audit {words}", bytes(doubted)).splitlines()]
+    plain = parsed(run(program, f"decode {words}", received), settings, "plain")
+    found = parsed(run(program, f"decode {words} form=audit", received), settings, "audit")
     receiver, out = coding.Receiver(settings), bytearray(settings_bytes(settings, slots))
-    doubted = io.BytesIO(doubted)
-    for slot, case in enumerate(zip(block_records(blocks, settings), found, plain, records, changes, verdicts)):
-        head, reading, short, record, (place, turn), told = case
-        soft = [soft_of(byte) for byte in received[slot * SLOT : slot * SLOT + SLOT]]
-        good = [part.mark == ord("G") for part in reading.parts if part.name == "half"]
-        _, front = receiver.front(slot, soft, lambda _, good=good: good[-1])
-        claim = doubted.read(SLOT + len(record))[SLOT:]
-        changed = parts_as(reading, claim)
-        out += head + sent[slot * SLOT : slot * SLOT + SLOT] + received[slot * SLOT : slot * SLOT + SLOT]
+    told = zip(block_records(blocks, settings), plain, found, doubted(program, words, found, draw), strict=True)
+    for slot, (head, short, reading, (record, claim, verdict)) in enumerate(told):
+        out += head + sent[slot * SLOT : slot * SLOT + SLOT] + reading.soft
         for data in (record_of(short, False), record):
             out += struct.pack(">H", len(data)) + data
-        out += struct.pack(">HB", place, record[place] ^ turn) + struct.pack(">BBHBB", *told)
-        out += checks_of(reading, changed, told, front, slot % 4 == number % 4)
+        place = next(at for at, pair in enumerate(zip(record, claim)) if pair[0] != pair[1])
+        out += struct.pack(">HB", place, claim[place]) + struct.pack(">BBHBB", *verdict)
+        front = heard_as(receiver, slot, reading)
+        out += checks_of(reading, parts_as(reading, claim), verdict, front, slot % 4 == number % 4)
     return bytes(out)
-
-
-def parts_as(reading, claim):
-    """A claim cut as the reading is whose place it has."""
-    parts, at = [], 1
-    for part in reading.parts:
-        end = at + 3 + len(part.bits)
-        behind = end + len(part.certificate or b"")
-        certificate = claim[end:behind] if part.certificate else None
-        parts.append(part._replace(mark=claim[at], metric=int.from_bytes(claim[at + 1 : at + 3], "big"), bits=claim[at + 3 : end], certificate=certificate))
-        at = behind
-    return reading._replace(parts=parts)
 
 
 def file_of(program, lines, slots=SLOTS):

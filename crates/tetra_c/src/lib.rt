@@ -1,0 +1,12 @@
+//! The lower MAC for C: a static library whose exports take structs of plain data, which the caller keeps, and answer
+//! 0 or the number of a fault. Nothing here takes memory, and no export has a condition that C could break by a
+//! value: lengths, bytes, numbers and states are tested.
+#![tactic(auto)]
+
+mod colour;
+mod fault;
+mod settings;
+
+pub use colour::TetraColour;
+pub use fault::Fault;
+pub use settings::TetraSettings;

@@ -1,1 +1,3 @@
 mod Modes
+mod Fitting
+mod Kept

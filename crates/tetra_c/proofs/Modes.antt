@@ -3,6 +3,7 @@ use Prim.Native.Nat.{zero, suc}
 use Rattle.std.proofs.Common.{ℕ, ◌≤◌, ◌≡◌, Bool, true, false, List, length, get_or, arith, refl, lit≤}
 use Rattle.std.specs.Prelude.{IsTrue, not, ◌&&◌, ◌==◌, if◌then◌else◌, nat_lt, slice_index, slice_index_or}
 use Rattle.std.specs.List.{list_all}
+use Rattle.std.proofs.lemmas.Bool.{and_parts}
 use Rattle.std.proofs.lemmas.List.Sums.{AllPass-from_list_all}
 use Rattle.tetra_scramble.specs.Colour.{IsColour}
 use Rattle.tetra_settings.specs.Validity.{HasMode, IsValid}
@@ -35,16 +36,11 @@ some_mode true true other h allowed = absurd (cc allowed)
 some_mode true false other h allowed = h
 some_mode false control other h allowed = tt
 
-both : (a b : Bool) → (a && b) ≡ true → (a ≡ true) × (b ≡ true)
-both true true h = (refl, refl)
-both true false h = absurd cc
-both false b h = absurd cc
-
 mode_valid : (direction mode : ℕ) → has_mode direction mode ≡ true → HasMode (direction_of direction) (mode_of mode)
 mode_valid direction mode h =
     some_mode (direction == 0) (mode == 1) _
     (other_mode (mode == 2) (mode == 3) (mode == 4) (mode == 5) (mode == 6) (mode == 7) (mode == 8) (mode == 9))
-    (both (nat_lt mode 10) (not (direction == 0 && mode == 1)) h).1
+    (and_parts (nat_lt mode 10) (not (direction == 0 && mode == 1)) h).1
 
 -- a timeslot that is none is signalling
 signalling_valid : (dir : Dir) → HasMode dir Sig
@@ -67,5 +63,5 @@ pub settings_valid : (settings : TetraSettings) → IsColour (colour_of settings
 unfolding settings_of
 settings_valid settings colour size modes place = record {
   ranges = record { colour = colour; at = place; max = (lit≤ tt, lit≤ tt); slots = (lit≤ tt, lit≤ tt); damage = lit≤ tt };
-  modes = modes_valid settings.direction settings.modes size (both (nat_lt settings.direction 2) (list_all (has_mode settings.direction) settings.modes) modes).1;
+  modes = modes_valid settings.direction settings.modes size (and_parts (nat_lt settings.direction 2) (list_all (has_mode settings.direction) settings.modes) modes).1;
 }

@@ -1,3 +1,7 @@
 pub mod Faults
+pub mod Bytes
 pub mod Colours
 pub mod Settings
+pub mod Rings
+pub mod Kept
+pub mod Blocks

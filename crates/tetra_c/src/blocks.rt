@@ -1,10 +1,10 @@
 // The blocks of a slot as C has them.
-ghost use Rattle.std.specs.Prelude.{◌≡◌, ◌≤◌, ◌<◌, ◌×◌, IsTrue, IfOk, length, slice_index};
+ghost use Rattle.std.specs.Prelude.{◌≡◌, ◌≤◌, ◌<◌, IsTrue, IfOk, length, take, slice_index};
 ghost use Rattle.std.specs.Result.{result_err};
 ghost use Rattle.tetra_settings.specs.Blocks.{Fits};
 ghost use Rattle.tetra_settings.specs.Validity.{IsValid};
 ghost use Rattle.tetra_c.specs.Bytes.{is_one};
-ghost use Rattle.tetra_c.specs.Blocks.{AreShort, are_short, front, field, are_read, fields_fault, has_lengths, has_access, may_carry, misfit, access_of, blocks_under, blocks_of};
+ghost use Rattle.tetra_c.specs.Blocks.{AreShort, are_short, field, are_read, fields_fault, has_lengths, has_access, may_carry, misfit, access_of, blocks_under, blocks_of};
 
 use crate::bytes::{are_bits, bits_of, is_bit};
 use crate::fault::Fault;
@@ -39,14 +39,13 @@ fn are_short(blocks: &TetraBlocks) -> bool
     blocks.bits[0] <= 432 && blocks.bits[1] <= 432 && blocks.bits[2] <= 432
 }
 
-/// The bytes of field `k`, counted from 0.
-fn front(blocks: &TetraBlocks, k: usize) -> &[u8]
-    requires short { AreShort blocks.now }
-    requires field { k < 3 }
-    ensures bytes { result.now ≡ front blocks.now k }
-    ensures size { length result.now ≡ slice_index blocks.now.bits k }
+/// The bytes of a field of so many bits.
+fn front(field: &[u8; 432], bits: u16) -> &[u8]
+    requires { bits ≤ 432 }
+    ensures bytes { result.now ≡ take bits field.now }
+    ensures size { length result.now ≡ bits }
 {
-    &blocks.fields[k][..usize::from(blocks.bits[k])]
+    &field[..usize::from(bits)]
 }
 
 /// Whether each byte that stands for a bit is 0 or 1.
@@ -56,9 +55,9 @@ fn are_read(blocks: &TetraBlocks) -> bool
 {
     is_bit(blocks.sends_first)
         && is_bit(blocks.sends_second)
-        && are_bits(front(blocks, 0))
-        && are_bits(front(blocks, 1))
-        && are_bits(front(blocks, 2))
+        && are_bits(front(&blocks.fields[0], blocks.bits[0]))
+        && are_bits(front(&blocks.fields[1], blocks.bits[1]))
+        && are_bits(front(&blocks.fields[2], blocks.bits[2]))
 }
 
 /// Finds fields that are too long, and bytes that are no bits.
@@ -122,7 +121,7 @@ fn field(blocks: &TetraBlocks, k: usize) -> Bits
     ensures bits { result ≡ field blocks.now k }
     ensures size { length result ≡ slice_index blocks.now.bits k }
 {
-    bits_of(front(blocks, k))
+    bits_of(front(&blocks.fields[k], blocks.bits[k]))
 }
 
 /// The access message, where the direction has one.

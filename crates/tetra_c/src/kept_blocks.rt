@@ -1,15 +1,14 @@
 // The blocks that a sender for C keeps of a timeslot.
-ghost use Rattle.std.specs.Prelude.{◌≡◌, ◌≤◌, length, IsTrue};
+ghost use Rattle.std.specs.Prelude.{◌≡◌, ◌≤◌, ◌++◌, ◌∷◌, [], Bool, List, length, IsTrue};
 ghost use Rattle.tetra_c.specs.Kept.{kept_bits, kept_blocks, KeepsLast, KeptStands};
 ghost use Rattle.tetra_c.specs.Rings.{is_ring};
-ghost use Rattle.tetra_diag.specs.Diagonal.{IsDepth};
+ghost use Rattle.tetra_diag.specs.Diagonal.{IsDepth, spread_word};
 ghost use Rattle.tetra_diag.specs.Ring.{Puts};
 
 use crate::bytes::put_bits;
 use crate::rings::is_ring;
 use tetra_bits::Bits;
 use tetra_diag::{BlockRow, spread_ring};
-use tetra_session::Spreads;
 
 /// A block of 432 type-3 bits, one byte each: bit 1 exactly where it is 1.
 #[repr(C)]
@@ -46,6 +45,16 @@ impl TetraKeptBlocks {
         self.oldest = 0;
     }
 
+    /// Begins anew what is no ring of the last `depth` blocks.
+    fn mend(&mut self, depth: usize)
+        ensures ring { IsTrue (is_ring depth self.new.count self.new.oldest) }
+        ensures same { IsTrue (is_ring depth self.old.count self.old.oldest) → self.new ≡ self.old }
+    {
+        if !is_ring(depth, self.count, self.oldest) {
+            self.clear();
+        }
+    }
+
     /// Keeps a block, in place of the oldest where there are `N`.
     fn keep<const N: usize>(&mut self, block: &Bits)
         requires depth { IsDepth N }
@@ -65,7 +74,7 @@ impl TetraKeptBlocks {
         }
     }
 
-    /// Keeps a block, and fills `word` with its slot word. What is no ring is begun anew.
+    /// Keeps a block, and fills `word` with its slot word.
     fn push_over<const N: usize>(&mut self, block: &Bits, word: &mut Bits)
         requires depth { IsDepth N }
         requires size { length block.now ≡ 432 }
@@ -75,27 +84,12 @@ impl TetraKeptBlocks {
             → KeepsLast N (blocks ++ block.now ∷ []) self.new }
         ensures size { length word.new ≡ 432 }
     {
-        if !is_ring(N, self.count, self.oldest) {
-            self.clear();
-        }
+        self.mend(N);
         self.keep::<N>(block);
         spread_ring::<N, TetraKeptBlock>(
             &self.blocks[..usize::from(self.count)],
             usize::from(self.oldest),
             word,
         );
-    }
-}
-
-impl Spreads for TetraKeptBlocks {
-    ghost Stands = { KeptStands };
-
-    fn push_into(&mut self, depth: usize, block: &Bits, word: &mut Bits) {
-        match depth {
-            1 => self.push_over::<1>(block, word),
-            4 => self.push_over::<4>(block, word),
-            8 => self.push_over::<8>(block, word),
-            _ => *word = block.copy(),
-        }
     }
 }

@@ -3,10 +3,16 @@
 //! value: lengths, bytes, numbers and states are tested.
 #![tactic(auto)]
 
+mod blocks;
+mod bytes;
 mod colour;
 mod fault;
+mod kept_blocks;
+mod rings;
 mod settings;
 
+pub use blocks::TetraBlocks;
 pub use colour::TetraColour;
 pub use fault::Fault;
+pub use kept_blocks::{TetraKeptBlock, TetraKeptBlocks};
 pub use settings::TetraSettings;

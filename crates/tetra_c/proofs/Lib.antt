@@ -1,3 +1,4 @@
 mod Modes
 mod Fitting
-mod Kept
+mod RingTests
+mod BlockRings

@@ -3,5 +3,5 @@ pub mod Bytes
 pub mod Colours
 pub mod Settings
 pub mod Rings
-pub mod Kept
+pub mod KeptBlocks
 pub mod Blocks

@@ -1,9 +1,9 @@
 // The blocks that a sender for C keeps of a timeslot.
 ghost use Rattle.std.specs.Prelude.{◌≡◌, ◌≤◌, ◌++◌, ◌∷◌, [], Bool, List, length, IsTrue};
-ghost use Rattle.tetra_c.specs.Kept.{kept_bits, kept_blocks, KeepsLast, KeptStands};
+ghost use Rattle.tetra_c.specs.KeptBlocks.{kept_bits, kept_blocks, KeepsLast};
 ghost use Rattle.tetra_c.specs.Rings.{is_ring};
 ghost use Rattle.tetra_diag.specs.Diagonal.{IsDepth, spread_word};
-ghost use Rattle.tetra_diag.specs.Ring.{Puts};
+ghost use Rattle.tetra_diag.specs.Ring.{Puts, turned};
 
 use crate::bytes::put_bits;
 use crate::rings::is_ring;
@@ -28,10 +28,22 @@ pub struct TetraKeptBlocks {
 }
 
 impl BlockRow for TetraKeptBlock {
+    ghost use Rattle.tetra_c.specs.KeptBlocks.{kept_bits};
+
     ghost bits = { kept_bits };
 
     fn bit(&self, i: usize) -> bool {
         self.bits[i] == 1
+    }
+}
+
+impl TetraKeptBlock {
+    /// Writes the bits of a block.
+    fn put(&mut self, block: &Bits)
+        requires { length block.now ≡ 432 }
+        ensures { kept_bits self.new ≡ block.now }
+    {
+        put_bits(block, &mut self.bits);
     }
 }
 
@@ -45,12 +57,13 @@ impl TetraKeptBlocks {
         self.oldest = 0;
     }
 
-    /// Begins anew what is no ring of the last `depth` blocks.
-    fn mend(&mut self, depth: usize)
-        ensures ring { IsTrue (is_ring depth self.new.count self.new.oldest) }
-        ensures same { IsTrue (is_ring depth self.old.count self.old.oldest) → self.new ≡ self.old }
+    /// Begins anew where what is kept is no ring of `N`.
+    fn settle<const N: usize>(&mut self)
+        requires { IsDepth N }
+        ensures ring { IsTrue (is_ring N self.new.count self.new.oldest) }
+        ensures kept { IsTrue (is_ring N self.old.count self.old.oldest) → self.new ≡ self.old }
     {
-        if !is_ring(depth, self.count, self.oldest) {
+        if !is_ring(N, self.count, self.oldest) {
             self.clear();
         }
     }
@@ -61,20 +74,34 @@ impl TetraKeptBlocks {
         requires ring { IsTrue (is_ring N self.old.count self.old.oldest) }
         requires size { length block.now ≡ 432 }
         ensures puts { Puts N self.old.oldest (kept_blocks self.old) block.now self.new.oldest (kept_blocks self.new) }
-        ensures few { self.new.count ≤ N }
+        ensures ring { IsTrue (is_ring N self.new.count self.new.oldest) }
     {
         let count = usize::from(self.count);
         if count < N {
-            put_bits(block, &mut self.blocks[count].bits);
+            self.blocks[count].put(block);
             self.count += 1;
         } else {
             let oldest = usize::from(self.oldest);
-            put_bits(block, &mut self.blocks[oldest].bits);
+            self.blocks[oldest].put(block);
             self.oldest = ((oldest + 1) % N) as u8;
         }
     }
 
-    /// Keeps a block, and fills `word` with its slot word.
+    /// Fills `word` with the slot word of the last block of a ring of `N`.
+    fn fill_word<const N: usize>(&self, word: &mut Bits)
+        requires depth { IsDepth N }
+        requires ring { IsTrue (is_ring N self.now.count self.now.oldest) }
+        ensures word { word.new ≡ spread_word N (turned self.now.oldest (kept_blocks self.now)) }
+        ensures size { length word.new ≡ 432 }
+    {
+        spread_ring::<N, TetraKeptBlock>(
+            &self.blocks[..usize::from(self.count)],
+            usize::from(self.oldest),
+            word,
+        );
+    }
+
+    /// Keeps a block, and fills `word` with its slot word. What is no ring is begun anew.
     fn push_over<const N: usize>(&mut self, block: &Bits, word: &mut Bits)
         requires depth { IsDepth N }
         requires size { length block.now ≡ 432 }
@@ -84,12 +111,8 @@ impl TetraKeptBlocks {
             → KeepsLast N (blocks ++ block.now ∷ []) self.new }
         ensures size { length word.new ≡ 432 }
     {
-        self.mend(N);
+        self.settle::<N>();
         self.keep::<N>(block);
-        spread_ring::<N, TetraKeptBlock>(
-            &self.blocks[..usize::from(self.count)],
-            usize::from(self.oldest),
-            word,
-        );
+        self.fill_word::<N>(word);
     }
 }

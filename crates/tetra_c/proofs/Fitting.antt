@@ -29,16 +29,16 @@ three C mode first second a b c p q r = (p, (q, (r, tt)))
 
 -- what the tests say
 pub record Carries (settings : Settings) (t : ℕ) (blocks : TetraBlocks) (letter : Letter) : Type 0 where
-  pub letter : IsTrue (is_allowed settings.dir (use_of settings t) letter)
+  pub allowed : IsTrue (is_allowed settings.dir (use_of settings t) letter)
   pub lengths : IsTrue (has_lengths blocks (field_bits letter (mode_of settings t) (is_one blocks.sends_first) (is_one blocks.sends_second)))
   pub access : IsTrue (has_access settings.dir blocks.aach)
 
 pub carries : (settings : Settings) (t : ℕ) (blocks : TetraBlocks) (letter : Letter) → IsTrue (may_carry settings t blocks letter) → Carries settings t blocks letter
 carries settings t blocks letter h =
     let table = field_bits letter (mode_of settings t) (is_one blocks.sends_first) (is_one blocks.sends_second) in
-    let first = and_parts (is_allowed settings.dir (use_of settings t) letter) (has_lengths blocks table && has_access settings.dir blocks.aach) h in
-    let more = and_parts (has_lengths blocks table) (has_access settings.dir blocks.aach) first.1 in
-    record { letter = first.0; lengths = more.0; access = more.1 }
+    let tests = and_parts (is_allowed settings.dir (use_of settings t) letter && has_lengths blocks table) (has_access settings.dir blocks.aach) h in
+    let front = and_parts (is_allowed settings.dir (use_of settings t) letter) (has_lengths blocks table) tests.0 in
+    record { allowed = front.0; lengths = front.1; access = tests.1 }
 
 module _ (bits : ℕ → ℕ) (table : List ℕ) where
   pub record AreEqual : Type 0 where
@@ -48,12 +48,12 @@ module _ (bits : ℕ → ℕ) (table : List ℕ) where
 
   equal : IsTrue (nat_eq (bits 0) (slice_index table 0) && nat_eq (bits 1) (slice_index table 1) && nat_eq (bits 2) (slice_index table 2)) → AreEqual
   equal h =
-      let first = and_parts (nat_eq (bits 0) (slice_index table 0)) (nat_eq (bits 1) (slice_index table 1) && nat_eq (bits 2) (slice_index table 2)) h in
-      let more = and_parts (nat_eq (bits 1) (slice_index table 1)) (nat_eq (bits 2) (slice_index table 2)) first.1 in
+      let tests = and_parts (nat_eq (bits 0) (slice_index table 0) && nat_eq (bits 1) (slice_index table 1)) (nat_eq (bits 2) (slice_index table 2)) h in
+      let front = and_parts (nat_eq (bits 0) (slice_index table 0)) (nat_eq (bits 1) (slice_index table 1)) tests.0 in
       record {
-        first = eqb-true (bits 0) (slice_index table 0) first.0;
-        second = eqb-true (bits 1) (slice_index table 1) more.0;
-        third = eqb-true (bits 2) (slice_index table 2) more.1;
+        first = eqb-true (bits 0) (slice_index table 0) front.0;
+        second = eqb-true (bits 1) (slice_index table 1) front.1;
+        third = eqb-true (bits 2) (slice_index table 2) tests.1;
       }
 
 -- the fields have the lengths of the table
@@ -75,7 +75,7 @@ pub blocks_fit : (settings : Settings) (t : ℕ) (blocks : TetraBlocks) (letter 
     → Carries settings t blocks letter → found.aach ≡ access_of settings.dir blocks.aach
     → letter_of found.body ≡ letter → HasLengths (mode_of settings t) found.body → Fits settings t found
 blocks_fit settings t blocks letter found may access is lengths = record {
-  letter = rw is may.letter;
+  letter = rw is may.allowed;
   lengths = lengths;
   access = rw access (access_fits settings.dir blocks.aach may.access);
 }

@@ -6,4 +6,6 @@ pub bounds-self-i : goal.bounds-self-i
 bounds-self-i c = omega (arith, c.requires, block_size c.args.self.now)
 
 pub returns : goal.returns
-returns c = sym (block_bit c.args.self.now c.args.i (bounds-self-i c))
+returns c =
+    let within : c.args.i < 432 = omega (arith, c.requires, block_size c.args.self.now) in
+    sym (block_bit c.args.self.now c.args.i within)

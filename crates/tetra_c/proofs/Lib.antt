@@ -2,3 +2,4 @@ mod Modes
 mod Fitting
 mod RingTests
 mod BlockRings
+mod SenderTurns

@@ -5,3 +5,5 @@ pub mod Settings
 pub mod Rings
 pub mod KeptBlocks
 pub mod Blocks
+pub mod Senders
+pub mod lemmas

@@ -9,6 +9,7 @@ use crate::bytes::put_bits;
 use crate::rings::is_ring;
 use tetra_bits::Bits;
 use tetra_diag::{BlockRow, spread_ring};
+use tetra_session::Spreads;
 
 /// A block of 432 type-3 bits, one byte each: bit 1 exactly where it is 1.
 #[repr(C)]
@@ -114,5 +115,23 @@ impl TetraKeptBlocks {
         self.settle::<N>();
         self.keep::<N>(block);
         self.fill_word::<N>(word);
+    }
+}
+
+impl Spreads for TetraKeptBlocks {
+    ghost use Rattle.tetra_c.specs.KeptBlocks.{KeptStands};
+    ghost use Rattle.tetra_c.specs.lemmas.IdleBlocks.{idle_blocks};
+
+    ghost Stands = { KeptStands };
+
+    ghost idle = { idle_blocks };
+
+    fn push_into(&mut self, depth: usize, block: &Bits, word: &mut Bits) {
+        match depth {
+            1 => self.push_over::<1>(block, word),
+            4 => self.push_over::<4>(block, word),
+            8 => self.push_over::<8>(block, word),
+            _ => *word = block.copy(),
+        }
     }
 }

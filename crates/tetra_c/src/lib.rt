@@ -9,10 +9,12 @@ mod colour;
 mod fault;
 mod kept_blocks;
 mod rings;
+mod sender;
 mod settings;
 
 pub use blocks::TetraBlocks;
 pub use colour::TetraColour;
 pub use fault::Fault;
 pub use kept_blocks::{TetraKeptBlock, TetraKeptBlocks};
+pub use sender::TetraSender;
 pub use settings::TetraSettings;

@@ -1,0 +1,32 @@
+use Rattle.std.proofs.Common.{◌≡◌, ◌≤◌, length, arith, refl, sym, ◌∙◌, subst}
+use Rattle.tetra_settings.specs.Slots.{timeslot_of}
+use Rattle.tetra_c.specs.Senders.{SenderIs}
+use Rattle.tetra_c.proofs.SenderTurns.{sent_now, sent_turned}
+use Rattle.tetra_c.proofs.sender.tetra_sender_slot.Goals as goal
+
+pub returns-in-Ok-clause-slot : goal.returns-in-Ok-clause-slot
+returns-in-Ok-clause-slot c = λ done settings history h.
+    let sender = c.args.sender.now in
+    let found = c.in-Ok.settings in
+    let same : found ≡ settings = c.in-Ok.ensures.settings ∙ h.same in
+    let is : SenderIs found history sender = subst (λ s. SenderIs s history sender) (sym same) h in
+    let here : c.from.result ≡ timeslot_of found.at sender.turn = c.from.ensures ∙ c.clock-timeslot.ensures.timeslot in
+    let low : 1 ≤ c.from.result = rw c.from.ensures c.clock-timeslot.ensures.timeslots.0 in
+    let high : c.from.result ≤ 4 = rw c.from.ensures c.clock-timeslot.ensures.timeslots.1 in
+    let four : length sender.lanes ≡ 4 = omega arith in
+    rw (← same, ← c.in-Ok.ensures.blocks)
+    (c.send_turn.ensures.slot history is.turn (sent_now found history sender c.from.result is here low high four _))
+
+pub returns-in-Ok-clause-stands : goal.returns-in-Ok-clause-stands
+returns-in-Ok-clause-stands c = λ done settings history h.
+    let sender = c.args.sender.now in
+    let found = c.in-Ok.settings in
+    let same : found ≡ settings = c.in-Ok.ensures.settings ∙ h.same in
+    let is : SenderIs found history sender = subst (λ s. SenderIs s history sender) (sym same) h in
+    let here : c.from.result ≡ timeslot_of found.at sender.turn = c.from.ensures ∙ c.clock-timeslot.ensures.timeslot in
+    let low : 1 ≤ c.from.result = rw c.from.ensures c.clock-timeslot.ensures.timeslots.0 in
+    let high : c.from.result ≤ 4 = rw c.from.ensures c.clock-timeslot.ensures.timeslots.1 in
+    let four : length sender.lanes ≡ 4 = omega arith in
+    rw (← same, ← c.in-Ok.ensures.blocks)
+    (sent_turned found history sender c.from.result is here low high four c.in-Ok.blocks c.send_turn.new.lane _ refl refl refl
+    (c.send_turn.ensures.stands history is.turn (sent_now found history sender c.from.result is here low high four _)))

@@ -1,18 +1,19 @@
 -- The blocks that are kept of a timeslot, one block on.
-use Rattle.std.proofs.Common.{ℕ, ◌+◌, ◌-◌, ◌<◌, ◌≤◌, ◌≡◌, Bool, true, false, List, [], ◌∷◌, ◌++◌, length, map, take, get_or, arith, refl, ap, sym, ◌∙◌}
+use Rattle.std.proofs.Common.{ℕ, ◌+◌, ◌-◌, ◌<◌, ◌≤◌, ◌≡◌, Bool, true, false, List, [], ◌∷◌, ◌++◌, length, map, take, get_or, arith, refl, ap, sym, ◌∙◌, inl, inr}
 use Rattle.std.specs.Prelude.{IsTrue, All, slice_index}
-use Rattle.std.proofs.lemmas.List.{length-map, length-take-le, get_or-map, drop_all}
+use Rattle.std.proofs.lemmas.Bool.{cases_lt}
+use Rattle.std.proofs.lemmas.List.{length-map, length-take-le, take_all, get_or-map, drop_all}
 use Rattle.tetra_bits.specs.Numbered.{is_numbered, length-numbered, get_or-numbered}
 use Rattle.tetra_bits.specs.Sums.{bit_number}
 use Rattle.tetra_diag.specs.Diagonal.{last}
 use Rattle.tetra_diag.specs.Ring.{IsRing, Puts, turned}
 use Rattle.tetra_diag.specs.lemmas.Rings.{turned_put, ring_put}
 use Rattle.tetra_c.specs.Bytes.{is_one, bytes_of}
-use Rattle.tetra_c.specs.KeptBlocks.{kept_bits, kept_blocks, KeepsLast}
+use Rattle.tetra_c.specs.KeptBlocks.{kept_bits, kept_blocks, KeepsLast, KeptStands}
 use Rattle.tetra_c.specs.Rings.{is_ring}
 use Rattle.tetra_c.specs.declared.kept_blocks.TetraKeptBlock.{TetraKeptBlock}
 use Rattle.tetra_c.specs.declared.kept_blocks.TetraKeptBlocks.{TetraKeptBlocks}
-use Rattle.tetra_c.proofs.RingTests.{IsKeptRing, ring_says, ring_holds}
+use Rattle.tetra_c.proofs.RingTests.{ring_holds}
 
 pub block_size : (block : TetraKeptBlock) → length (kept_bits block) ≡ 432
 block_size block = length-numbered (λ k. is_one (slice_index block.bits (k - 1))) 432
@@ -41,16 +42,26 @@ block_written row block size written =
 pub blocks_whole : (blocks : List TetraKeptBlock) → All (λ b. length (kept_bits b) ≡ 432) blocks
 blocks_whole blocks = λ k block low. block_size _
 
-module _ (n : ℕ) (some : 1 ≤ n) (most : n ≤ 8) where
-  length-kept : (kept : TetraKeptBlocks) → length kept.blocks ≡ 8 → kept.count ≤ n → length (kept_blocks kept) ≡ kept.count
-  length-kept kept size few = length-map (take kept.count kept.blocks) kept_bits ∙ length-take-le kept.count kept.blocks (omega (arith, size, few, most))
+taken_few : {X : Type 0} (m : ℕ) (xs : List X) → length (take m xs) ≤ m
+taken_few m xs = elim (cases_lt (length xs) m) [
+  | inl few ↦ omega (arith, ap length (take_all m xs (omega arith)))
+  | inr all ↦ omega (arith, length-take-le m xs all)
+]
 
-  -- the test finds a ring where the last n blocks are kept
-  pub ring_tested : (blocks : List (List Bool)) (kept : TetraKeptBlocks) → length kept.blocks ≡ 8 → KeepsLast n blocks kept → IsTrue (is_ring n kept.count kept.oldest)
-  ring_tested blocks kept size keeps =
-      let l = length-kept kept size keeps.few in
-      ring_holds n kept.count kept.oldest
-      (record { low = keeps.ring.low; few = keeps.few; straight = λ h. keeps.ring.straight (omega (arith, l, h)) })
+-- the test finds a ring where the last n blocks are kept
+pub ring_tested : (n : ℕ) (blocks : List (List Bool)) (kept : TetraKeptBlocks) → KeepsLast n blocks kept → IsTrue (is_ring n kept.count kept.oldest)
+ring_tested n blocks kept keeps =
+    let l : length (kept_blocks kept) ≤ kept.count =
+    omega (arith, length-map (take kept.count kept.blocks) kept_bits, taken_few kept.count kept.blocks) in
+    ring_holds n kept.count kept.oldest
+    (record { low = keeps.ring.low; few = keeps.few; straight = λ h. keeps.ring.straight (omega (arith, l, h)) })
+
+-- and where they stand for the blocks of a timeslot
+pub stands_tested : (n : ℕ) (blocks : List (List Bool)) (kept : TetraKeptBlocks) → KeptStands n blocks kept → IsTrue (is_ring n kept.count kept.oldest)
+stands_tested n blocks kept stands = elim (cases_lt 0 n) [
+  | inl some ↦ ring_tested n blocks kept (stands (omega arith))
+  | inr none ↦ let z : n ≡ 0 = omega arith in rw z refl
+]
 
 -- the last n blocks, one block on
 pub keeps_put : (n : ℕ) (blocks : List (List Bool)) (old new : TetraKeptBlocks) (block : List Bool) → new.count ≤ n → KeepsLast n blocks old

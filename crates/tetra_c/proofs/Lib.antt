@@ -3,3 +3,4 @@ mod Fitting
 mod RingTests
 mod BlockRings
 mod SenderTurns
+mod NeverKept

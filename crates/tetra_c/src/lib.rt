@@ -18,3 +18,6 @@ pub use fault::Fault;
 pub use kept_blocks::{TetraKeptBlock, TetraKeptBlocks};
 pub use sender::TetraSender;
 pub use settings::TetraSettings;
+
+#[cfg(test)]
+mod sender_tests;

@@ -6,7 +6,7 @@ ghost use Rattle.tetra_settings.specs.Validity.{IsValid};
 ghost use Rattle.tetra_settings.specs.declared.blocks.SlotBlocks.{SlotBlocks};
 ghost use Rattle.tetra_session.specs.Sent.{slot_written};
 ghost use Rattle.tetra_c.specs.Blocks.{blocks_of};
-ghost use Rattle.tetra_c.specs.Faults.{answer_of};
+ghost use Rattle.tetra_c.specs.Faults.{answer_of, number_of};
 ghost use Rattle.tetra_c.specs.Settings.{settings_fault, settings_of};
 ghost use Rattle.tetra_c.specs.Senders.{SenderIs, AreClear, is_lane, are_lanes, sender_fault, slot_fault};
 
@@ -97,7 +97,7 @@ fn checked(sender: &TetraSender, blocks: &TetraBlocks) -> Result<(Settings, Slot
     ensures settings { IfOk result (λ found. found.0 ≡ settings_of sender.now.settings) }
     ensures valid { IfOk result (λ found. IsValid found.0) }
     ensures turn { IfOk result (λ _. sender.now.turn < 16777216) }
-    ensures blocks { IfOk result (λ found. found.1 ≡ blocks_of found.0.dir blocks.now) }
+    ensures given { IfOk result (λ found. found.1 ≡ blocks_of found.0.dir blocks.now) }
     ensures fits { IfOk result (λ found. Fits found.0 sender.now.turn found.1) }
 {
     check_fields(blocks)?;
@@ -122,6 +122,9 @@ pub extern "C" fn tetra_sender_slot(
         → SenderIs settings (history ++ blocks_of settings.dir blocks.now ∷ []) sender.new }
     ensures settings { sender.new.settings ≡ sender.old.settings }
     ensures turn { result ≡ pos 0 → sender.new.turn ≡ sender.old.turn + 1 }
+    // What is kept is refused only where it was changed by another hand.
+    ensures own { (settings : Settings) (history : List SlotBlocks) → SenderIs settings history sender.old
+        → result ≢ number_of Fault.Kept }
     ensures slot_kept { result ≢ pos 0 → slot.new ≡ slot.old }
     ensures sender_kept { result ≢ pos 0 → sender.new ≡ sender.old }
 {

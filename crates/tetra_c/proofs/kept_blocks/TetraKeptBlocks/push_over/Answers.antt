@@ -11,8 +11,7 @@ pub returns-clause-stands : goal.returns-clause-stands
 returns-clause-stands g c = λ blocks keeps.
     let n = g.row.N in
     let width = depth_width n c.requires.depth in
-    let size : length c.args.self.now.blocks ≡ 8 = omega arith in
-    let same : c.settle.new.self ≡ c.args.self.now = c.settle.ensures.kept (ring_tested n width.some width.most blocks c.args.self.now size keeps) in
+    let same : c.settle.new.self ≡ c.args.self.now = c.settle.ensures.kept (ring_tested n blocks c.args.self.now keeps) in
     let says = ring_says n c.keep.new.self.count c.keep.new.self.oldest width.some c.keep.ensures.ring in
     keeps_put n blocks c.settle.new.self c.keep.new.self c.args.block.now says.few
     (subst (KeepsLast n blocks) (sym same) keeps) c.keep.ensures.puts

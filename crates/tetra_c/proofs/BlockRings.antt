@@ -5,8 +5,7 @@ use Rattle.std.proofs.lemmas.Bool.{cases_lt}
 use Rattle.std.proofs.lemmas.List.{length-map, length-take-le, take_all, get_or-map, drop_all}
 use Rattle.tetra_bits.specs.Numbered.{is_numbered, length-numbered, get_or-numbered}
 use Rattle.tetra_bits.specs.Sums.{bit_number}
-use Rattle.tetra_diag.specs.Diagonal.{last}
-use Rattle.tetra_diag.specs.Ring.{IsRing, Puts, turned}
+use Rattle.tetra_diag.specs.Ring.{Puts}
 use Rattle.tetra_diag.specs.lemmas.Rings.{turned_put, ring_put}
 use Rattle.tetra_c.specs.Bytes.{is_one, bytes_of}
 use Rattle.tetra_c.specs.KeptBlocks.{kept_bits, kept_blocks, KeepsLast, KeptStands}

@@ -1,5 +1,5 @@
 -- Blocks that C may give a slot fit it.
-use Rattle.std.proofs.Common.{ℕ, ◌≤◌, ◌≡◌, Bool, List, [], ◌∷◌, length, ◌∙◌}
+use Rattle.std.proofs.Common.{ℕ, ◌≡◌, Bool, List, [], ◌∷◌, length, ◌∙◌}
 use Rattle.std.specs.Prelude.{IsTrue, nat_eq, ◌&&◌, slice_index}
 use Rattle.std.proofs.lemmas.Bool.{and_parts, ltb-true, eqb-true}
 use Rattle.tetra_settings.specs.Blocks.{Fits, FitsAccess, HasLengths, Lengths, field_bits, letter_of}

@@ -1,5 +1,5 @@
 -- What is kept in a sender that stands for its slots is not refused.
-use Rattle.std.proofs.Common.{ℕ, ◌-◌, ◌≤◌, ◌≡◌, ◌≢◌, Bool, true, false, List, Option, Some, None, ap, sym, ◌∙◌, subst, arith, lit≤}
+use Rattle.std.proofs.Common.{ℕ, ◌-◌, ◌≤◌, ◌≡◌, ◌≢◌, Bool, true, false, List, Option, Some, None, ap, ◌∙◌, subst, lit≤}
 use Rattle.std.specs.Prelude.{if◌then◌else◌, nat_lt, not, negsuc, slice_index_or}
 use Rattle.std.proofs.lemmas.Bool.{and_from}
 use Rattle.tetra_settings.specs.Slots.{letter_of_byte}

@@ -155,7 +155,11 @@ fn blocks_under(settings: &Settings, turn: u32, blocks: &TetraBlocks, letter: Le
 }
 
 /// The blocks, where slot `turn` may carry them.
-pub fn fitting_blocks(settings: &Settings, turn: u32, blocks: &TetraBlocks) -> Result<SlotBlocks, Fault>
+pub fn fitting_blocks(
+    settings: &Settings,
+    turn: u32,
+    blocks: &TetraBlocks,
+) -> Result<SlotBlocks, Fault>
     requires valid { IsValid settings.now }
     requires short { AreShort blocks.now }
     ensures fault { result_err result ≡ misfit settings.now turn blocks.now }

@@ -60,11 +60,26 @@ fn slots_one_by_one(rt: HostRuntime) {
     let mut sender = any_sender();
     let mut slot = [0; 510];
     assert_eq!(rt; tetra_sender_init(&mut sender, &SETTINGS), 0);
-    assert_eq!(rt; tetra_sender_slot(&mut sender, &one_field(b'F', 268), &mut slot), 0);
-    assert_eq!(rt; tetra_sender_slot(&mut sender, &one_field(b'F', 268), &mut slot), -8);
-    assert_eq!(rt; tetra_sender_slot(&mut sender, &one_field(b'T', 432), &mut slot), 0);
-    assert_eq!(rt; tetra_sender_slot(&mut sender, &one_field(b'T', 288), &mut slot), 0);
-    assert_eq!(rt; (sender.turn, sender.lanes[1].count, sender.lanes[2].count), (3, 0, 1));
+    assert_eq!(rt;
+        tetra_sender_slot(&mut sender, &one_field(b'F', 268), &mut slot),
+        0
+    );
+    assert_eq!(rt;
+        tetra_sender_slot(&mut sender, &one_field(b'F', 268), &mut slot),
+        -8
+    );
+    assert_eq!(rt;
+        tetra_sender_slot(&mut sender, &one_field(b'T', 432), &mut slot),
+        0
+    );
+    assert_eq!(rt;
+        tetra_sender_slot(&mut sender, &one_field(b'T', 288), &mut slot),
+        0
+    );
+    assert_eq!(rt;
+        (sender.turn, sender.lanes[1].count, sender.lanes[2].count),
+        (3, 0, 1)
+    );
     let mut blocks = one_field(b'C', 0);
     blocks.sends_second = 1;
     blocks.bits[1] = 92;
@@ -76,7 +91,10 @@ fn slots_one_by_one(rt: HostRuntime) {
 fn slots_that_are_refused(rt: HostRuntime) {
     let mut sender = any_sender();
     let mut slot = [5; 510];
-    assert_eq!(rt; tetra_sender_slot(&mut sender, &one_field(b'F', 433), &mut slot), -1);
+    assert_eq!(rt;
+        tetra_sender_slot(&mut sender, &one_field(b'F', 433), &mut slot),
+        -1
+    );
     let mut blocks = one_field(b'F', 268);
     blocks.fields[0][267] = 2;
     assert_eq!(rt; tetra_sender_slot(&mut sender, &blocks, &mut slot), -2);

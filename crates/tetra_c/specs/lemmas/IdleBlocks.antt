@@ -1,5 +1,5 @@
 -- Where nothing is spread, what is kept stands for any blocks.
-use Rattle.std.proofs.Common.{ℕ, Bool, List, arith}
+use Rattle.std.proofs.Common.{Bool, List, arith}
 use Rattle.tetra_c.specs.KeptBlocks.{KeptStands}
 use Rattle.tetra_c.specs.declared.kept_blocks.TetraKeptBlocks.{TetraKeptBlocks}
 

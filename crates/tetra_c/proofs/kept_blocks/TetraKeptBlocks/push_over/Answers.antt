@@ -1,4 +1,4 @@
-use Rattle.std.proofs.Common.{◌≡◌, ◌++◌, ◌∷◌, [], length, arith, sym, ap, ◌∙◌, subst}
+use Rattle.std.proofs.Common.{◌≡◌, ◌++◌, ◌∷◌, [], sym, ap, ◌∙◌, subst}
 use Rattle.tetra_diag.specs.Diagonal.{spread_word}
 use Rattle.tetra_diag.specs.lemmas.Depths.{depth_width}
 use Rattle.tetra_diag.specs.lemmas.Kept.{spread_word_last}

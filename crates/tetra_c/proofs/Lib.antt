@@ -1,0 +1,6 @@
+mod Modes
+mod Fitting
+mod RingTests
+mod BlockRings
+mod SenderTurns
+mod NeverKept

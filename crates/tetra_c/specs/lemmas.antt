@@ -1,0 +1,2 @@
+-- Facts on the definitions of this crate, with their proofs. No contract cites them.
+pub mod IdleBlocks

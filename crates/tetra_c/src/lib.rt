@@ -3,10 +3,17 @@
 //! value: lengths, bytes, numbers and states are tested.
 #![tactic(auto)]
 
+mod bytes;
+mod check;
 mod colour;
 mod fault;
+mod readings;
 mod settings;
+mod soft;
+mod verdict;
 
 pub use colour::TetraColour;
 pub use fault::Fault;
+pub use readings::{TetraField, TetraReading};
 pub use settings::TetraSettings;
+pub use verdict::TetraVerdict;

@@ -1,0 +1,2 @@
+-- Facts that the structs for C rest on.
+pub mod IdleWords

@@ -3,4 +3,5 @@
 pub mod Arrives
 pub mod Depths
 pub mod Kept
+pub mod Rings
 pub mod Within

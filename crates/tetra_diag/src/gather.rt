@@ -1,11 +1,12 @@
 // Gathering blocks from slots.
-ghost use Rattle.std.specs.Prelude.{◌≡◌, ◌<◌, ◌≤◌, ◌+◌, ◌*◌, ◌/◌, ◌++◌, ◌∷◌, [], ℕ, ℤ, List, length, All, IsTrue, IfSome};
+ghost use Rattle.std.specs.Prelude.{◌≡◌, ◌<◌, ◌≤◌, ◌+◌, ◌*◌, ◌/◌, ◌++◌, ◌∷◌, [], ℕ, ℤ, List, length, map, All, IsTrue, IfSome};
 ghost use Rattle.tetra_bits.specs.Numbered.{numbered};
 ghost use Rattle.tetra_bits.specs.Soft.{IsSoft, AllWithin};
 ghost use Rattle.tetra_diag.specs.Diagonal.{IsDepth, GatherStands, gathered, gathered_value, AreGathered, Fills};
 ghost use Rattle.tetra_diag.specs.Ring.{Puts, turned};
 
 use crate::ring::place;
+use crate::rows::WordRow;
 use arrayvec::ArrayVec;
 use std::marker::Model;
 use tetra_bits::Soft;
@@ -76,7 +77,7 @@ impl<const N: usize> Gather<N> {
             → All (AllWithin top) (words ++ word.now ∷ []) → IsTrue result → AllWithin top block.new }
     {
         self.oldest = keep_word(&mut self.words, self.oldest, word);
-        complete::<N>(self.words.as_slice(), self.oldest, block)
+        gather_ring::<N, Soft>(self.words.as_slice(), self.oldest, block)
     }
 }
 
@@ -101,65 +102,67 @@ fn refill(kept: &mut Soft, word: &Soft)
     *kept = word.copy();
 }
 
-/// Fills `block` with the block that the last word of a ring completes, where there is one.
-fn complete<const N: usize>(words: &[Soft], oldest: usize, block: &mut Soft) -> bool
+/// Fills `block` with the block of 432 values that the last word of a ring completes, where there are `N` words, which is
+/// 1, 4 or 8; false and no change where there are fewer. The words have 432 values each, and `oldest` is where the oldest
+/// stands.
+pub fn gather_ring<const N: usize, W: WordRow>(words: &[W], oldest: usize, block: &mut Soft) -> bool
     requires depth { IsDepth N }
-    requires size { All (λ w. length w ≡ 432) words.now }
+    requires size { All (λ w. length (W.values w) ≡ 432) words.now }
     requires few { length words.now ≤ N }
     requires low { oldest ≤ length words.now }
-    ensures block { Fills (gathered N (turned oldest words.now)) result block.old block.new }
+    ensures block { Fills (gathered N (turned oldest (map W.values words.now))) result block.old block.new }
     ensures size { IsTrue result → length block.new ≡ 432 }
 {
     if words.len() < N {
         return false;
     }
-    fill_block::<N>(words, oldest, block);
+    fill_block::<N, W>(words, oldest, block);
     true
 }
 
 /// Fills `block` with the block that a full ring of words completes.
-fn fill_block<const N: usize>(words: &[Soft], oldest: usize, block: &mut Soft)
+fn fill_block<const N: usize, W: WordRow>(words: &[W], oldest: usize, block: &mut Soft)
     requires depth { IsDepth N }
-    requires size { All (λ w. length w ≡ 432) words.now }
+    requires size { All (λ w. length (W.values w) ≡ 432) words.now }
     requires full { length words.now ≡ N }
     requires low { oldest ≤ length words.now }
-    ensures value { block.new ≡ numbered (gathered_value N (turned oldest words.now)) 432 }
+    ensures value { block.new ≡ numbered (gathered_value N (turned oldest (map W.values words.now))) 432 }
     ensures size { length block.new ≡ 432 }
 {
     block.resize(432);
     for j in 0..N {
-        fill_places::<N>(words, oldest, j, block);
+        fill_places::<N, W>(words, oldest, j, block);
     }
 }
 
 /// Writes the values that a full ring of words has in word `j`, counted from the oldest on, at their places of the block:
 /// `j`, `j + N` and so on, counted from 0.
-fn fill_places<const N: usize>(words: &[Soft], oldest: usize, j: usize, block: &mut Soft)
+fn fill_places<const N: usize, W: WordRow>(words: &[W], oldest: usize, j: usize, block: &mut Soft)
     requires depth { IsDepth N }
-    requires size { All (λ w. length w ≡ 432) words.now }
+    requires size { All (λ w. length (W.values w) ≡ 432) words.now }
     requires full { length words.now ≡ N }
     requires low { oldest ≤ length words.now }
     requires word { j < N }
     requires long { length block.old ≡ 432 }
     ensures size { length block.new ≡ 432 }
-    ensures written { AreGathered N (turned oldest words.now) (j * (432 / N)) block.old
-        → AreGathered N (turned oldest words.now) ((j + 1) * (432 / N)) block.new }
+    ensures written { AreGathered N (turned oldest (map W.values words.now)) (j * (432 / N)) block.old
+        → AreGathered N (turned oldest (map W.values words.now)) ((j + 1) * (432 / N)) block.new }
 {
     for i in 0..432 / N {
-        block.set(i * N + j, value_of::<N>(words, oldest, j, i));
+        block.set(i * N + j, value_of::<N, W>(words, oldest, j, i));
     }
 }
 
 /// The value at `i * N + j`, counted from 0, of the block that a full ring of words completes.
-fn value_of<const N: usize>(words: &[Soft], oldest: usize, j: usize, i: usize) -> i16
+fn value_of<const N: usize, W: WordRow>(words: &[W], oldest: usize, j: usize, i: usize) -> i16
     requires depth { IsDepth N }
-    requires size { All (λ w. length w ≡ 432) words.now }
+    requires size { All (λ w. length (W.values w) ≡ 432) words.now }
     requires full { length words.now ≡ N }
     requires low { oldest ≤ length words.now }
     requires word { j < N }
     requires place { i < 432 / N }
-    ensures value { result ≡ gathered_value N (turned oldest words.now) (i * N + j + 1) }
+    ensures value { result ≡ gathered_value N (turned oldest (map W.values words.now)) (i * N + j + 1) }
     ensures soft { IsSoft result }
 {
-    words[place(oldest, j, words.len())].get(j * (432 / N) + i)
+    words[place(oldest, j, words.len())].value(j * (432 / N) + i)
 }

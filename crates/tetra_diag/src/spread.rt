@@ -1,10 +1,11 @@
 // Spreading blocks over slots.
-ghost use Rattle.std.specs.Prelude.{◌≡◌, ◌<◌, ◌≤◌, ◌+◌, ◌*◌, ◌/◌, ◌++◌, ◌∷◌, [], Bool, false, List, length, All};
+ghost use Rattle.std.specs.Prelude.{◌≡◌, ◌<◌, ◌≤◌, ◌+◌, ◌*◌, ◌/◌, ◌++◌, ◌∷◌, [], Bool, false, List, length, map, All};
 ghost use Rattle.tetra_bits.specs.lemmas.InPlace.{Begins};
 ghost use Rattle.tetra_diag.specs.Diagonal.{IsDepth, SpreadStands, spread_bit, spread_word};
 ghost use Rattle.tetra_diag.specs.Ring.{Puts, turned};
 
 use crate::ring::place;
+use crate::rows::BlockRow;
 use arrayvec::ArrayVec;
 use std::marker::Model;
 use tetra_bits::Bits;
@@ -66,7 +67,7 @@ impl<const N: usize> Spread<N> {
         ensures size { length word.new ≡ 432 }
     {
         self.oldest = keep_block(&mut self.blocks, self.oldest, block);
-        fill_word::<N>(self.blocks.as_slice(), self.oldest, word);
+        spread_ring::<N, Bits>(self.blocks.as_slice(), self.oldest, word);
     }
 }
 
@@ -91,50 +92,51 @@ fn refill(kept: &mut Bits, block: &Bits)
     *kept = block.copy();
 }
 
-/// Fills `word` with the slot word of the last block of a ring.
-fn fill_word<const N: usize>(blocks: &[Bits], oldest: usize, word: &mut Bits)
+/// Fills `word` with the slot word, of 432 bits, of the last block of a ring of at most `N` blocks, which is 1, 4 or 8. The
+/// blocks have 432 bits each, and `oldest` is where the oldest stands.
+pub fn spread_ring<const N: usize, B: BlockRow>(blocks: &[B], oldest: usize, word: &mut Bits)
     requires depth { IsDepth N }
-    requires size { All (λ b. length b ≡ 432) blocks.now }
+    requires size { All (λ b. length (B.bits b) ≡ 432) blocks.now }
     requires few { length blocks.now ≤ N }
     requires low { oldest ≤ length blocks.now }
-    ensures word { word.new ≡ spread_word N (turned oldest blocks.now) }
+    ensures word { word.new ≡ spread_word N (turned oldest (map B.bits blocks.now)) }
     ensures size { length word.new ≡ 432 }
 {
     word.resize(432);
     for j in 0..N {
-        fill_part::<N>(blocks, oldest, j, word);
+        fill_part::<N, B>(blocks, oldest, j, word);
     }
 }
 
 /// Writes part `j` of the slot word, counted from 0: bits of the block that was pushed `j` before the last.
-fn fill_part<const N: usize>(blocks: &[Bits], oldest: usize, j: usize, word: &mut Bits)
+fn fill_part<const N: usize, B: BlockRow>(blocks: &[B], oldest: usize, j: usize, word: &mut Bits)
     requires depth { IsDepth N }
-    requires size { All (λ b. length b ≡ 432) blocks.now }
+    requires size { All (λ b. length (B.bits b) ≡ 432) blocks.now }
     requires few { length blocks.now ≤ N }
     requires low { oldest ≤ length blocks.now }
     requires part { j < N }
     requires long { length word.old ≡ 432 }
     ensures size { length word.new ≡ 432 }
-    ensures written { Begins (spread_bit N (turned oldest blocks.now)) false (j * (432 / N)) word.old
-        → Begins (spread_bit N (turned oldest blocks.now)) false ((j + 1) * (432 / N)) word.new }
+    ensures written { Begins (spread_bit N (turned oldest (map B.bits blocks.now))) false (j * (432 / N)) word.old
+        → Begins (spread_bit N (turned oldest (map B.bits blocks.now))) false ((j + 1) * (432 / N)) word.new }
 {
     for i in 0..432 / N {
-        word.set(j * (432 / N) + i, bit_of::<N>(blocks, oldest, j, i));
+        word.set(j * (432 / N) + i, bit_of::<N, B>(blocks, oldest, j, i));
     }
 }
 
 /// Bit `i` of part `j`, both counted from 0, of the slot word of the last block of a ring.
-fn bit_of<const N: usize>(blocks: &[Bits], oldest: usize, j: usize, i: usize) -> bool
+fn bit_of<const N: usize, B: BlockRow>(blocks: &[B], oldest: usize, j: usize, i: usize) -> bool
     requires depth { IsDepth N }
-    requires size { All (λ b. length b ≡ 432) blocks.now }
+    requires size { All (λ b. length (B.bits b) ≡ 432) blocks.now }
     requires few { length blocks.now ≤ N }
     requires low { oldest ≤ length blocks.now }
     requires bit { i < 432 / N }
-    ensures { result ≡ spread_bit N (turned oldest blocks.now) (j * (432 / N) + i + 1) }
+    ensures { result ≡ spread_bit N (turned oldest (map B.bits blocks.now)) (j * (432 / N) + i + 1) }
 {
     if j < blocks.len() {
         let newest = blocks.len() - 1;
-        blocks[place(oldest, newest - j, blocks.len())].get(j + i * N)
+        blocks[place(oldest, newest - j, blocks.len())].bit(j + i * N)
     } else {
         false
     }

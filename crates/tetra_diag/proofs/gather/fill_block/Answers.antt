@@ -1,4 +1,4 @@
-use Rattle.std.proofs.Common.{arith}
+use Rattle.std.proofs.Common.{arith, map}
 use Rattle.tetra_diag.specs.lemmas.Depths.{depth_width}
 use Rattle.tetra_diag.specs.Ring.{turned}
 use Rattle.tetra_diag.proofs.Entries.{all_gathered}
@@ -13,4 +13,4 @@ loop-j-preserved g c = record { size = c.fill_places.ensures.size; written = c.f
 pub returns-clause-value : goal.returns-clause-value
 returns-clause-value g c =
     let w = depth_width g.row.N c.requires.depth in
-    all_gathered g.row.N (turned c.args.oldest c.args.words.now) c.loop-j.j c.loop-j.block w.whole w.some c.loop-j.invariant.size (omega arith) c.loop-j.invariant.written
+    all_gathered g.row.N (turned c.args.oldest (map g.W.WordRow.values c.args.words.now)) c.loop-j.j c.loop-j.block w.whole w.some c.loop-j.invariant.size (omega arith) c.loop-j.invariant.written

@@ -1,4 +1,4 @@
-use Rattle.std.proofs.Common.{◌≡◌, ◌*◌, ◌/◌, length}
+use Rattle.std.proofs.Common.{◌≡◌, ◌*◌, ◌/◌, length, map}
 use Rattle.tetra_diag.specs.Diagonal.{AreGathered}
 use Rattle.tetra_diag.specs.Ring.{turned}
 use Rattle.tetra_diag.proofs.gather.fill_block.Given as goal
@@ -7,5 +7,5 @@ abbrev pub invariant-loop-j : goal.invariant-loop-j
 invariant-loop-j g l =
     record {
       size : length l.block ≡ 432;
-      written : AreGathered g.row.N (turned l.oldest l.words) (l.j * (432 / g.row.N)) l.block;
+      written : AreGathered g.row.N (turned l.oldest (map g.W.WordRow.values l.words)) (l.j * (432 / g.row.N)) l.block;
     }

@@ -1,4 +1,4 @@
-use Rattle.std.proofs.Common.{◌≡◌, ◌∙◌, ◌+◌, ◌*◌, ◌/◌, ℕ, false, arith, subst}
+use Rattle.std.proofs.Common.{◌≡◌, ◌∙◌, ◌+◌, ◌*◌, ◌/◌, ℕ, map, false, arith, subst}
 use Rattle.std.proofs.lemmas.Nat.{mul-add-lt}
 use Rattle.tetra_bits.specs.lemmas.InPlace.{Begins, begins_set}
 use Rattle.tetra_diag.specs.Diagonal.{spread_bit}
@@ -14,7 +14,7 @@ set-requires g c =
 pub loop-i-preserved : goal.loop-i-preserved
 loop-i-preserved g c =
     let n = g.row.N in
-    let f = spread_bit n (turned c.args.oldest c.args.blocks.now) in
+    let f = spread_bit n (turned c.args.oldest (map g.B.BlockRow.bits c.args.blocks.now)) in
     let at = c.args.j * (432 / n) + c.loop-i.i in
     let w = depth_width n c.requires.depth in
     let next : at + 1 ≡ c.args.j * (432 / n) + (c.loop-i.i + 1) = omega arith in
@@ -29,6 +29,6 @@ loop-i-preserved g c =
 pub returns-clause-written : goal.returns-clause-written
 returns-clause-written g c = λ front.
     let n = g.row.N in
-    let f = spread_bit n (turned c.args.oldest c.args.blocks.now) in
+    let f = spread_bit n (turned c.args.oldest (map g.B.BlockRow.bits c.args.blocks.now)) in
     let end : c.args.j * (432 / n) + c.loop-i.i ≡ (c.args.j + 1) * (432 / n) = omega arith in
     subst (λ (k : ℕ). Begins f false k c.loop-i.word) end (c.loop-i.invariant.written front)

@@ -1,4 +1,4 @@
-use Rattle.std.proofs.Common.{◌≡◌, ◌+◌, ◌*◌, ◌/◌, length, false}
+use Rattle.std.proofs.Common.{◌≡◌, ◌+◌, ◌*◌, ◌/◌, length, map, false}
 use Rattle.tetra_bits.specs.lemmas.InPlace.{Begins}
 use Rattle.tetra_diag.specs.Diagonal.{spread_bit}
 use Rattle.tetra_diag.specs.Ring.{turned}
@@ -8,6 +8,6 @@ abbrev pub invariant-loop-i : goal.invariant-loop-i
 invariant-loop-i g l =
     record {
       size : length l.word ≡ 432;
-      written : Begins (spread_bit g.row.N (turned l.oldest l.blocks)) false (l.j * (432 / g.row.N)) l.initial.word
-          → Begins (spread_bit g.row.N (turned l.oldest l.blocks)) false (l.j * (432 / g.row.N) + l.i) l.word;
+      written : Begins (spread_bit g.row.N (turned l.oldest (map g.B.BlockRow.bits l.blocks))) false (l.j * (432 / g.row.N)) l.initial.word
+          → Begins (spread_bit g.row.N (turned l.oldest (map g.B.BlockRow.bits l.blocks))) false (l.j * (432 / g.row.N) + l.i) l.word;
     }

@@ -1,8 +1,8 @@
 -- Facts on rings.
-use Rattle.std.proofs.Common.{ℕ, ◌+◌, ◌-◌, ◌*◌, ◌%◌, ◌<◌, ◌≤◌, ◌≡◌, inl, inr, List, [], ◌∷◌, ◌++◌, length, take, drop, set, get_or, nat_lt, true, false, arith, ap, sym, ◌∙◌, length-drop, length-append, append_assoc, length-set}
+use Rattle.std.proofs.Common.{ℕ, zero, suc, ◌+◌, ◌-◌, ◌*◌, ◌%◌, ◌<◌, ◌≤◌, ◌≡◌, inl, inr, List, [], ◌∷◌, ◌++◌, length, map, take, drop, set, get_or, nat_lt, true, false, arith, ap, sym, ◌∙◌, length-drop, length-append, append_assoc, length-set, append-nil, refl, map-id}
 use Rattle.std.specs.Prelude.{All}
 use Rattle.std.proofs.lemmas.Bool.{lt-ltb, le-ltb, cases_lt}
-use Rattle.std.proofs.lemmas.List.{get_or-drop, get_or-take, get_or-append_right, get_or_append_left, drop-drop, drop-append-le, drop-set-lt, take_more_set, take_all, drop_all, append-nil, length_push, length-take-le}
+use Rattle.std.proofs.lemmas.List.{get_or-drop, get_or-take, get_or-append_right, get_or_append_left, drop-drop, drop-append-le, drop-set-lt, take_more_set, take_all, drop_all, length_push, length-take-le, map_push, get_or-map, drop-map, take-map, map-append, length-map, map-set}
 use Rattle.std.proofs.lemmas.List.Elements.{All-push, All-set}
 use Rattle.std.proofs.lemmas.Nat.{mod-mul-add}
 use Rattle.tetra_diag.specs.Diagonal.{last}
@@ -75,6 +75,32 @@ module _ {X : Type 0} where
       let l : length new ≡ length old = ap length p.1 ∙ length-set old o b in
       record { low = omega (arith, p.2, w.low); few = omega (arith, w.few); straight = λ h. absurd (omega (arith, p.0)) }
 
+  -- one more entry behind the others
+  pub put_behind : (n o next : ℕ) (old new : List X) (b : X) → length old < n → new ≡ old ++ b ∷ [] → next ≡ o → Puts n o old b next new
+  put_behind n o next old new b room e same = inl (room, e, same)
+
+  -- one more entry in place of the oldest
+  pub put_over : (n o next : ℕ) (old new : List X) (b : X) → n ≤ length old → new ≡ set old o b → next ≡ (o + 1) % n → Puts n o old b next new
+  put_over n o next old new b full e step = inr (full, e, step)
+
+  -- where a ring has the first m places of a list, one more entry behind the others is written at place m
+  pub front_behind : (n o next m : ℕ) (places : List X) (b : X) → m < n → m < length places → next ≡ o
+      → Puts n o (take m places) b next (take (m + 1) (set places m b))
+  front_behind n o next m places b room within same =
+      put_behind n o next (take m places) (take (m + 1) (set places m b)) b (omega (arith, length-take-le m places (omega arith))) (take_more_set places m b within) same
+
+  take_of_set : (m o : ℕ) (places : List X) (b : X) → take m (set places o b) ≡ set (take m places) o b
+  take_of_set zero o places b = refl
+  take_of_set (suc m) o [] b = refl
+  take_of_set (suc m) zero (x ∷ places) b = refl
+  take_of_set (suc m) (suc o) (x ∷ places) b = ap (λ xs. x ∷ xs) (take_of_set m o places b)
+
+  -- and one in place of the oldest is written at its place
+  pub front_over : (n o next m : ℕ) (places : List X) (b : X) → n ≤ m → m ≤ length places → next ≡ (o + 1) % n
+      → Puts n o (take m places) b next (take m (set places o b))
+  front_over n o next m places b full within step =
+      put_over n o next (take m places) (take m (set places o b)) b (omega (arith, length-take-le m places within)) (take_of_set m o places b) step
+
   pub ring_low : (n o : ℕ) (xs : List X) → IsRing n o xs → o ≤ length xs
   ring_low n o xs w = elim (cases_lt (length xs) n) [ inl lt ↦ omega (arith, w.straight lt) | inr ge ↦ omega (arith, w.low) ]
 
@@ -82,3 +108,24 @@ module _ {X : Type 0} (P : X → Type 0) where
   pub all_put : (n o next : ℕ) (old new : List X) (b : X) → Puts n o old b next new → All P old → P b → All P new
   all_put n o next old new b (inl p) a h = rw p.1 (All-push P old b a h)
   all_put n o next old new b (inr p) a h = rw p.1 (All-set P old o b h a)
+
+-- a ring, its entries read by f
+module _ {X Y : Type 0} (f : X → Y) where
+  pub map_turned : (o : ℕ) (xs : List X) → map f (turned o xs) ≡ turned o (map f xs)
+  map_turned o xs = map-append f (drop o xs) (take o xs) ∙ (λ i. sym (drop-map f o xs) i ++ sym (take-map f o xs) i)
+
+  pub ring_map : (n o : ℕ) (xs : List X) → IsRing n o xs → IsRing n o (map f xs)
+  ring_map n o xs w =
+      let l : length (map f xs) ≡ length xs = length-map xs f in
+      record { low = w.low; few = omega (arith, w.few); straight = λ h. w.straight (omega arith) }
+
+  pub put_map : (n o next : ℕ) (old new : List X) (b : X) → Puts n o old b next new → Puts n o (map f old) (f b) next (map f new)
+  put_map n o next old new b (inl p) = inl (omega (arith, length-map old f, p.0), ap (map f) p.1 ∙ map_push f old b, p.2)
+  put_map n o next old new b (inr p) = inr (omega (arith, length-map old f, p.0), ap (map f) p.1 ∙ map-set f old o b, p.2)
+
+  -- entry i from the oldest on, where the entry x at its place was read
+  pub turned_map_read : (o i p : ℕ) (xs : List X) (x : X) → o ≤ length xs → i < length xs → p ≡ place o i (length xs)
+      → x ≡ get_or xs p x → p < length xs → f x ≡ get_or (turned o (map f xs)) i (f x)
+  turned_map_read o i p xs x low within e read there =
+      let l : length (map f xs) ≡ length xs = length-map xs f in
+      turned_read o i p (map f xs) (f x) (omega arith) (omega arith) (e ∙ ap (place o i) (sym l)) (ap f read ∙ sym (get_or-map f xs p x (f x) there))

@@ -1,1 +1,5 @@
 mod Putting
+mod RingTests
+mod WordRings
+mod Small
+mod Turns

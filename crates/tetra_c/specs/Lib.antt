@@ -2,7 +2,12 @@ pub mod Faults
 pub mod Colours
 pub mod Settings
 pub mod Bytes
+pub mod Rings
 pub mod Values
 pub mod Verdicts
 pub mod Checks
 pub mod Readings
+pub mod KeptWords
+pub mod Receivers
+pub mod Records
+pub mod lemmas

@@ -1,7 +1,7 @@
 // The colour of a cell as C has it.
 ghost use Rattle.std.specs.Prelude.{◌≡◌, IfSome};
 ghost use Rattle.tetra_scramble.specs.Colour.{IsColour};
-ghost use Rattle.tetra_c.specs.Colours.{checked_colour};
+ghost use Rattle.tetra_c.specs.Colours.{colour_of, checked_colour};
 
 use tetra_scramble::Colour;
 
@@ -17,6 +17,7 @@ pub struct TetraColour {
 /// The colour, where its numbers are in range.
 pub fn checked_colour(colour: &TetraColour) -> Option<Colour>
     ensures value { result ≡ checked_colour colour.now }
+    ensures same { IfSome result (λ found. found ≡ colour_of colour.now) }
     ensures range { IfSome result IsColour }
 {
     if colour.mcc > 1023 || colour.mnc > 16383 || colour.cc > 63 {

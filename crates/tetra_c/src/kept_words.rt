@@ -61,6 +61,17 @@ impl TetraKeptWords {
         self.oldest = 0;
     }
 
+    /// Begins anew where what is kept is no ring of `N`.
+    fn settle<const N: usize>(&mut self)
+        requires { IsDepth N }
+        ensures ring { IsTrue (is_ring N self.new.count self.new.oldest) }
+        ensures kept { IsTrue (is_ring N self.old.count self.old.oldest) → self.new ≡ self.old }
+    {
+        if !is_ring(N, self.count, self.oldest) {
+            self.clear();
+        }
+    }
+
     /// Keeps a word, in place of the oldest where there are `N`.
     fn keep<const N: usize>(&mut self, word: &Soft)
         requires depth { IsDepth N }
@@ -106,9 +117,7 @@ impl TetraKeptWords {
             → KeepsLast N (words ++ word.now ∷ []) self.new }
         ensures size { IsTrue result → length block.new ≡ 432 }
     {
-        if !is_ring(N, self.count, self.oldest) {
-            self.clear();
-        }
+        self.settle::<N>();
         self.keep::<N>(word);
         self.complete::<N>(block)
     }

@@ -84,7 +84,7 @@ pub fn ready(receiver: &TetraReceiver) -> Result<Settings, Fault>
     ensures fault { result_err result ≡ receiver_fault receiver.now }
     ensures value { IfOk result (λ found. found ≡ settings_of receiver.now.settings) }
     ensures valid { IfOk result IsValid }
-    ensures few { IsOk result → receiver.now.turn < 16777216 }
+    ensures few { IfOk result (λ _. receiver.now.turn < 16777216) }
 {
     let settings = checked_settings(&receiver.settings)?;
     if receiver.turn >= 16_777_216 {
@@ -99,7 +99,7 @@ pub fn ready(receiver: &TetraReceiver) -> Result<Settings, Fault>
 /// Where the lane of the slot numbered `turn` stands: its timeslot, counted from 0.
 pub fn lane_at(settings: &Settings, turn: u32) -> usize
     requires { IsValid settings.now }
-    ensures value { result ≡ timeslot_of settings.now.at turn - 1 }
+    ensures value { result + 1 ≡ timeslot_of settings.now.at turn }
     ensures within { result < 4 }
 {
     let (timeslot, _, _) = clock(settings.at, turn);

@@ -138,12 +138,11 @@ fn hear(
     lane: &mut TetraKeptWords,
     front: &mut Front,
 )
-    requires valid { IsValid settings.now }
-    requires few { turn < 16777216 }
-    ensures front { (history : List (List ℤ)) → length history ≡ turn
+    requires { IsValid settings.now }
+    ensures front { (history : List (List ℤ)) → turn ≡ length history
         → HeardStands KeptStands settings.now turn history lane.old
         → front.new ≡ slot_front settings.now history (soft_values slot.now) }
-    ensures stands { (history : List (List ℤ)) → length history ≡ turn
+    ensures stands { (history : List (List ℤ)) → turn ≡ length history
         → HeardStands KeptStands settings.now turn history lane.old
         → HeardStands KeptStands settings.now turn (history ++ soft_values slot.now ∷ []) lane.new }
     ensures formed { IsFront front.new }
@@ -159,8 +158,8 @@ fn hear(
         &Keys::new(&settings.colour),
         turn,
         lane,
-        &mut half,
         &mut Work::new(),
+        &mut half,
         &slot_values(slot),
         front,
     );

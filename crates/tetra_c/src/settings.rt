@@ -1,6 +1,7 @@
 // The settings of a session as C has them.
-ghost use Rattle.std.specs.Prelude.{◌≡◌, ◌×◌, IfOk};
+ghost use Rattle.std.specs.Prelude.{◌≡◌, ◌≤◌, IfOk, IsTrue};
 ghost use Rattle.std.specs.Result.{result_err};
+ghost use Rattle.tetra_scramble.specs.Colour.{IsColour};
 ghost use Rattle.tetra_settings.specs.Validity.{IsValid};
 ghost use Rattle.tetra_c.specs.Colours.{colour_of};
 ghost use Rattle.tetra_c.specs.Settings.{has_mode, has_modes, mode_of, direction_of, settings_fault, settings_of};
@@ -68,11 +69,15 @@ fn direction(number: u8) -> Dir
     if number == 0 { Dir::Dl } else { Dir::Ul }
 }
 
-/// The settings with this colour, which is theirs.
+/// The settings, all in range, with this colour, which is theirs.
 #[tactic(auto, unfolding(crate::specs::Settings::settings_of))]
 fn settings_of(settings: &TetraSettings, colour: Colour) -> Settings
-    requires { colour ≡ colour_of settings.now.colour }
-    ensures { result ≡ settings_of settings.now }
+    requires same { colour ≡ colour_of settings.now.colour }
+    requires colour { IsColour colour }
+    requires modes { IsTrue (has_modes settings.now) }
+    requires place { settings.now.at ≤ 4319 }
+    ensures value { result ≡ settings_of settings.now }
+    ensures valid { IsValid result }
 {
     Settings {
         dir: direction(settings.direction),

@@ -1,3 +1,4 @@
+mod Modes
 mod Putting
 mod RingTests
 mod WordRings

@@ -25,7 +25,7 @@ plan_of channel =
 abbrev pub plan_fault : CodePlan → List ℤ → List ℕ → ℕ → Option Fault
 plan_fault plan values message rows =
     if not (nat_eq (length values) plan.sent) || not (nat_eq (length message + 4) plan.steps)
-        || not (nat_eq rows (plan.steps + 1)) then Some Length
+    || not (nat_eq rows (plan.steps + 1)) then Some Length
     else (if not (are_bits message) then Some Bit else None)
 
 abbrev pub fault_by : Option CodePlan → List ℤ → List ℕ → ℕ → Option Fault

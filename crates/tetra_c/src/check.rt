@@ -48,11 +48,7 @@ fn check_with<P: Plan>(
     }
     let mut table = Potentials::new();
     read_table(rows, &mut table);
-    *verdict = verdict_for(check::<P>(
-        &field_values(values),
-        &bits_of(message),
-        &table,
-    ));
+    *verdict = verdict_for(check::<P>(&field_values(values), &bits_of(message), &table));
     0
 }
 

@@ -16,6 +16,9 @@ mod settings;
 mod soft;
 mod verdict;
 
+#[cfg(test)]
+mod tests;
+
 pub use colour::TetraColour;
 pub use fault::Fault;
 pub use kept_words::{TetraKeptWord, TetraKeptWords};

@@ -13,7 +13,9 @@ pub record IsKeptRing (n count oldest : ℕ) : Type 0 where
 pub ring_says : (n count oldest : ℕ) → 1 ≤ n → IsTrue (is_ring n count oldest) → IsKeptRing n count oldest
 ring_says n count oldest some h =
     elim (or_cases _ _ h) [
-      | inl none ↦ absurd (omega (arith, some, eqb-true n 0 none))
+      | inl none ↦
+          let z : n ≡ 0 = eqb-true n 0 none in
+          absurd (omega (arith, some, z))
       | inr rest ↦
           let parts = and_parts _ _ rest in
           let low : oldest < n = ltb-true oldest n parts.0 in

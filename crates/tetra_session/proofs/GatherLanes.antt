@@ -54,11 +54,11 @@ module _ {L : Type 0} (Stands : ℕ → List (List ℤ) → L → Type 0) (setti
   lane_is new idle step still =
       let traffic : use_of settings t ≡ Traffic = load_carries settings t soft (mode_of settings t) (second_stolen settings.dir key soft) load loaded in
       elim (cases_Bool (is_spread load.name)) [
-        | inl yes ↦
+        | inl over ↦
             let taken : Stands (depth (mode_of settings t)) (before ++ word_heard settings.dir (key_of settings.colour) (mode_of settings t) soft ∷ []) new =
-            rw (← deep, ← word_is) (step before stood yes) in
+            rw (← deep, ← word_is) (step before stood over) in
             turn_taken Stands (word_heard settings.dir (key_of settings.colour)) settings t history soft new turn traffic taken
-        | inr no ↦
-            let none : depth (mode_of settings t) ≡ 0 = sym deep ∙ none_spread n (is_spread load.name) spreads no in
-            rw (still no) (turn_idle Stands (word_heard settings.dir (key_of settings.colour)) settings t history soft old idle none h)
+        | inr once ↦
+            let none : depth (mode_of settings t) ≡ 0 = sym deep ∙ none_spread n (is_spread load.name) spreads once in
+            rw (still once) (turn_idle Stands (word_heard settings.dir (key_of settings.colour)) settings t history soft old idle none h)
       ]

@@ -1,5 +1,5 @@
 -- Facts on rings.
-use Rattle.std.proofs.Common.{ℕ, zero, suc, ◌+◌, ◌-◌, ◌*◌, ◌%◌, ◌<◌, ◌≤◌, ◌≡◌, inl, inr, List, [], ◌∷◌, ◌++◌, length, map, take, drop, set, get_or, nat_lt, true, false, arith, ap, sym, ◌∙◌, length-drop, length-append, append_assoc, length-set, append-nil, refl, map-id}
+use Rattle.std.proofs.Common.{ℕ, zero, suc, ◌+◌, ◌-◌, ◌*◌, ◌%◌, ◌<◌, ◌≤◌, ◌≡◌, inl, inr, List, [], ◌∷◌, ◌++◌, length, map, take, drop, set, get_or, nat_lt, true, false, arith, ap, sym, ◌∙◌, length-drop, length-append, append_assoc, length-set, append-nil, refl}
 use Rattle.std.specs.Prelude.{All}
 use Rattle.std.proofs.lemmas.Bool.{lt-ltb, le-ltb, cases_lt}
 use Rattle.std.proofs.lemmas.List.{get_or-drop, get_or-take, get_or-append_right, get_or_append_left, drop-drop, drop-append-le, drop-set-lt, take_more_set, take_all, drop_all, length_push, length-take-le, map_push, get_or-map, drop-map, take-map, map-append, length-map, map-set}

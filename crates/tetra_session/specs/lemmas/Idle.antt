@@ -1,5 +1,5 @@
 -- Lanes at which nothing is spread stand for anything.
-use Rattle.std.proofs.Common.{ℕ, ◌≡◌, Bool, List, ℤ, arith}
+use Rattle.std.proofs.Common.{Bool, List, ℤ, arith}
 use Rattle.tetra_session.specs.Heard.{GatherLaneStands}
 use Rattle.tetra_session.specs.Sent.{SpreadLaneStands}
 use Rattle.tetra_session.specs.declared.gathering.GatherLane.{GatherLane}

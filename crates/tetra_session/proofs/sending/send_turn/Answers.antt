@@ -1,4 +1,4 @@
-use Rattle.std.proofs.Common.{◌≡◌, length, arith, sym, ap, refl, ◌∙◌, Bor, Option, Some, None}
+use Rattle.std.proofs.Common.{◌≡◌, sym, ap, refl, ◌∙◌, Bor, Option, Some, None}
 use Rattle.std.specs.Option.{option_copied, option_map}
 use Rattle.tetra_bits.specs.declared.bits.Bits.{Bits}
 use Rattle.tetra_bursts.specs.declared.table.Train.TheVariants.{N, P}

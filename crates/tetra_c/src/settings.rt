@@ -1,5 +1,6 @@
 // The settings of a session as C has them.
 ghost use Rattle.std.specs.Prelude.{◌≡◌, ◌≤◌, IfOk, IsTrue};
+ghost use Rattle.std.specs.List.{list_all};
 ghost use Rattle.std.specs.Result.{result_err};
 ghost use Rattle.tetra_scramble.specs.Colour.{IsColour};
 ghost use Rattle.tetra_settings.specs.Validity.{IsValid};
@@ -33,15 +34,18 @@ fn has_mode(direction: u8, mode: u8) -> bool
     mode < 10 && !(direction == 0 && mode == 1)
 }
 
+/// Whether a direction has the mode of each timeslot.
+fn are_modes(direction: u8, modes: &[u8; 4]) -> bool
+    ensures { result ≡ list_all (has_mode direction) modes.now }
+{
+    modes.iter().all(|mode| has_mode(direction, *mode))
+}
+
 /// Whether the direction is one, and has the mode of each timeslot.
 fn has_modes(settings: &TetraSettings) -> bool
     ensures { result ≡ has_modes settings.now }
 {
-    settings.direction < 2
-        && settings
-            .modes
-            .iter()
-            .all(|mode| has_mode(settings.direction, *mode))
+    settings.direction < 2 && are_modes(settings.direction, &settings.modes)
 }
 
 /// The mode of a number below 10.

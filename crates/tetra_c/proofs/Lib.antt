@@ -4,3 +4,7 @@ mod RingTests
 mod BlockRings
 mod SenderTurns
 mod NeverKept
+mod Putting
+mod WordRings
+mod Small
+mod Turns

@@ -6,4 +6,11 @@ pub mod Rings
 pub mod KeptBlocks
 pub mod Blocks
 pub mod Senders
+pub mod Values
+pub mod Verdicts
+pub mod Checks
+pub mod Readings
+pub mod KeptWords
+pub mod Receivers
+pub mod Records
 pub mod lemmas

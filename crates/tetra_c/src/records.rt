@@ -1,0 +1,245 @@
+// Reading records: the bytes of a reading with its certificates, and their audit.
+ghost use Rattle.std.specs.Prelude.{◌≡◌, ◌≢◌, ◌<◌, ◌≤◌, ◌+◌, ◌-◌, ◌++◌, ◌∷◌, [], pos, length, take, List, ℤ, All, IfOk, IsOk, IsErr, None};
+ghost use Rattle.std.specs.Result.{result_err};
+ghost use Rattle.tetra_audit.specs.Fields.{claim_length};
+ghost use Rattle.tetra_audit.specs.Verdicts.{slot_verdict};
+ghost use Rattle.tetra_records.specs.Readings.{reading_spelling, IsSmall};
+ghost use Rattle.tetra_session.specs.Fronts.{IsFront};
+ghost use Rattle.tetra_session.specs.Heard.{HeardStands, slot_front, slot_reading};
+ghost use Rattle.tetra_settings.specs.Readings.{IsWellFormed};
+ghost use Rattle.tetra_settings.specs.Validity.{IsValid};
+ghost use Rattle.tetra_c.specs.Faults.{answer_of};
+ghost use Rattle.tetra_c.specs.KeptWords.{KeptStands};
+ghost use Rattle.tetra_c.specs.Receivers.{receiver_fault, ReceiverIs};
+ghost use Rattle.tetra_c.specs.Records.{form_of, audit_for, claim_fault};
+ghost use Rattle.tetra_c.specs.Settings.{settings_of};
+ghost use Rattle.tetra_c.specs.Values.{soft_values};
+
+use crate::fault::Fault;
+use crate::kept_words::TetraKeptWords;
+use crate::receiver::{TetraReceiver, empty_reading, lane_at, read, ready};
+use crate::soft::slot_values;
+use crate::verdict::{TetraVerdict, verdict_for};
+use arrayvec::ArrayVec;
+use tetra_audit::{FieldWhy, SlotVerdict, audit_slot_with, claim_len};
+use tetra_bits::{Bits, Mark, Potentials, Reading};
+use tetra_cert::Verdict;
+use tetra_records::add_reading;
+use tetra_rm::Rows;
+use tetra_session::{Front, Keys, Work, hear_turn};
+use tetra_settings::{Form, Settings, SlotReading};
+
+/// The form of a record: with certificates where the number is not 0.
+fn form_of(certificates: u8) -> Form
+    ensures { result ≡ form_of certificates }
+{
+    if certificates == 0 {
+        Form::Plain
+    } else {
+        Form::Audit
+    }
+}
+
+/// Writes the record of a reading at the front of the bytes, and answers how many it has.
+#[inline(never)]
+fn put_record(reading: &SlotReading, form: Form, bytes: &mut [u8; 18743]) -> u32
+    requires formed { IsWellFormed reading.now }
+    requires small { All IsSmall reading.now.fields.items }
+    ensures { take result bytes.new ≡ reading_spelling form reading.now }
+{
+    let mut record = ArrayVec::<u8, 18743>::new();
+    add_reading(reading, form, &mut record);
+    bytes[..record.len()].copy_from_slice(record.as_slice());
+    record.len() as u32
+}
+
+/// Reads the slot whose turn it is from its 510 values, and writes its reading record, with certificates where
+/// `certificates` is not 0: `written` bytes, at most 18,743. Answers 0, or the number of a fault, and then nothing is
+/// written and it is still the turn of this slot: as `tetra_receiver_slot`.
+#[unsafe(no_mangle)]
+pub extern "C" fn tetra_receiver_record(
+    receiver: &mut TetraReceiver,
+    slot: &[i8; 510],
+    certificates: u8,
+    bytes: &mut [u8; 18743],
+    written: &mut u32,
+) -> i32
+    ensures answer { result ≡ answer_of (receiver_fault receiver.old) }
+    ensures bytes { result ≡ pos 0 → (settings : Settings) (history : List (List ℤ)) → ReceiverIs settings history receiver.old
+        → take written.new bytes.new ≡ reading_spelling (form_of certificates)
+        (slot_reading settings history (soft_values slot.now)) }
+    ensures stands { result ≡ pos 0 → (settings : Settings) (history : List (List ℤ)) → ReceiverIs settings history receiver.old
+        → ReceiverIs settings (history ++ soft_values slot.now ∷ []) receiver.new }
+    ensures settings { receiver.new.settings ≡ receiver.old.settings }
+    ensures turn { result ≡ pos 0 → receiver.new.turn ≡ receiver.old.turn + 1 }
+    ensures bytes_kept { result ≢ pos 0 → bytes.new ≡ bytes.old }
+    ensures written_kept { result ≢ pos 0 → written.new ≡ written.old }
+    ensures receiver_kept { result ≢ pos 0 → receiver.new ≡ receiver.old }
+{
+    let mut found = empty_reading();
+    match read(receiver, slot, &mut found) {
+        Ok(()) => {
+            *written = put_record(&found, form_of(certificates), bytes);
+            0
+        }
+        Err(fault) => fault.number(),
+    }
+}
+
+/// The verdict of an audit: `test` is 0 where the record is the defined one and its certificates are accepted; else it is
+/// the first test that fails, 1 the letter, 2 the pad bits, 3 bits that come by no trellis, 4 the certificate, 5 the
+/// metric or 6 the mark of the field numbered `field`, counted from 0, and of a certificate the rule and its place.
+#[repr(C)]
+#[derive(Clone, Copy, PartialEq, Eq, Debug)]
+pub struct TetraAudit {
+    pub test: u8,
+    pub field: u8,
+    pub certificate: TetraVerdict,
+}
+
+/// The verdict of a test that is no certificate's.
+fn of_test(test: u8, field: u8) -> TetraAudit
+    ensures { result ≡ record { test = test; field = field; certificate = record { step = 0; state = 0; rule = 0 } } }
+{
+    TetraAudit {
+        test,
+        field,
+        certificate: verdict_for(Verdict::Accepted),
+    }
+}
+
+/// A verdict for C.
+fn audit_for(verdict: SlotVerdict) -> TetraAudit
+    ensures { result ≡ audit_for verdict }
+{
+    match verdict {
+        SlotVerdict::Agrees => of_test(0, 0),
+        SlotVerdict::Kind => of_test(1, 0),
+        SlotVerdict::Field { index, why } => match why {
+            FieldWhy::Pad => of_test(2, index),
+            FieldWhy::Bits => of_test(3, index),
+            FieldWhy::Cert { step, state, rule } => TetraAudit {
+                test: 4,
+                field: index,
+                certificate: verdict_for(Verdict::Refused { step, state, rule }),
+            },
+            FieldWhy::Metric => of_test(5, index),
+            FieldWhy::Mark => of_test(6, index),
+        },
+    }
+}
+
+/// Hears the slot numbered `turn`: writes its front over one that is there, and takes it into the lane of its timeslot.
+#[inline(never)]
+fn hear(
+    settings: &Settings,
+    turn: u32,
+    slot: &[i8; 510],
+    lane: &mut TetraKeptWords,
+    front: &mut Front,
+)
+    requires { IsValid settings.now }
+    ensures front { (history : List (List ℤ)) → turn ≡ length history
+        → HeardStands KeptStands settings.now turn history lane.old
+        → front.new ≡ slot_front settings.now history (soft_values slot.now) }
+    ensures stands { (history : List (List ℤ)) → turn ≡ length history
+        → HeardStands KeptStands settings.now turn history lane.old
+        → HeardStands KeptStands settings.now turn (history ++ soft_values slot.now ∷ []) lane.new }
+    ensures formed { IsFront front.new }
+{
+    let mut half = Reading {
+        mark: Mark::Unchecked,
+        metric: 0,
+        bits: Bits::new(),
+        potentials: None,
+    };
+    hear_turn(
+        settings,
+        &Keys::new(&settings.colour),
+        turn,
+        lane,
+        &mut Work::new(),
+        &mut half,
+        &slot_values(slot),
+        front,
+    );
+}
+
+/// Audits a claim of the length of the front's record.
+#[inline(never)]
+fn audit(rows: &Rows, front: &Front, claim: &[u8]) -> TetraAudit
+    requires front { IsFront front.now }
+    requires size { length claim.now ≡ claim_length front.now }
+    ensures { result ≡ audit_for (slot_verdict rows.now front.now claim.now) }
+{
+    audit_for(audit_slot_with(&mut Potentials::new(), rows, front, claim))
+}
+
+/// Audits a claim about the slot whose turn it is.
+fn audited(
+    receiver: &mut TetraReceiver,
+    slot: &[i8; 510],
+    claim: &[u8],
+) -> Result<TetraAudit, Fault>
+    ensures fault { receiver_fault receiver.old ≢ None → result_err result ≡ receiver_fault receiver.old }
+    ensures length { receiver_fault receiver.old ≡ None → (settings : Settings) (history : List (List ℤ))
+        → ReceiverIs settings history receiver.old → result_err result
+        ≡ claim_fault (slot_front settings history (soft_values slot.now)) claim.now }
+    ensures verdict { IfOk result (λ found. (settings : Settings) (history : List (List ℤ)) → ReceiverIs settings history receiver.old
+        → found ≡ audit_for (slot_verdict settings.rows
+        (slot_front settings history (soft_values slot.now)) claim.now)) }
+    ensures stands { IsOk result → (settings : Settings) (history : List (List ℤ)) → ReceiverIs settings history receiver.old
+        → ReceiverIs settings (history ++ soft_values slot.now ∷ []) receiver.new }
+    ensures settings { receiver.new.settings ≡ receiver.old.settings }
+    ensures turn { IsOk result → receiver.new.turn ≡ receiver.old.turn + 1 }
+    ensures kept { IsErr result → receiver.new ≡ receiver.old }
+{
+    let settings = ready(receiver)?;
+    let at = lane_at(&settings, receiver.turn);
+    // A copy, so that nothing is written where the claim is too long or too short.
+    let mut lane = receiver.lanes[at];
+    let mut front = Front {
+        letter: 0,
+        fields: ArrayVec::new(),
+    };
+    hear(&settings, receiver.turn, slot, &mut lane, &mut front);
+    if claim.len() != claim_len(&front) {
+        return Err(Fault::Length);
+    }
+    receiver.lanes[at] = lane;
+    receiver.turn += 1;
+    Ok(audit(&settings.rows, &front, claim))
+}
+
+/// Audits a reading record with certificates of the slot whose turn it is, whoever wrote it. Answers 0, and then the
+/// verdict is written, or the number of a fault, and then nothing is written and it is still the turn of this slot: as
+/// `tetra_receiver_slot`, and then -1 where the record is longer or shorter than that of this slot.
+#[unsafe(no_mangle)]
+pub extern "C" fn tetra_receiver_audit(
+    receiver: &mut TetraReceiver,
+    slot: &[i8; 510],
+    claim: &[u8],
+    verdict: &mut TetraAudit,
+) -> i32
+    ensures fault { receiver_fault receiver.old ≢ None → result ≡ answer_of (receiver_fault receiver.old) }
+    ensures length { receiver_fault receiver.old ≡ None → (settings : Settings) (history : List (List ℤ))
+        → ReceiverIs settings history receiver.old → result ≡ answer_of
+        (claim_fault (slot_front settings history (soft_values slot.now)) claim.now) }
+    ensures verdict { result ≡ pos 0 → (settings : Settings) (history : List (List ℤ)) → ReceiverIs settings history receiver.old
+        → verdict.new ≡ audit_for (slot_verdict settings.rows
+        (slot_front settings history (soft_values slot.now)) claim.now) }
+    ensures stands { result ≡ pos 0 → (settings : Settings) (history : List (List ℤ)) → ReceiverIs settings history receiver.old
+        → ReceiverIs settings (history ++ soft_values slot.now ∷ []) receiver.new }
+    ensures settings { receiver.new.settings ≡ receiver.old.settings }
+    ensures turn { result ≡ pos 0 → receiver.new.turn ≡ receiver.old.turn + 1 }
+    ensures verdict_kept { result ≢ pos 0 → verdict.new ≡ verdict.old }
+    ensures receiver_kept { result ≢ pos 0 → receiver.new ≡ receiver.old }
+{
+    match audited(receiver, slot, claim) {
+        Ok(found) => {
+            *verdict = found;
+            0
+        }
+        Err(fault) => fault.number(),
+    }
+}

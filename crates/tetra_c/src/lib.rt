@@ -14,10 +14,9 @@ mod records;
 mod rings;
 mod settings;
 mod soft;
-mod verdict;
-
 #[cfg(test)]
-mod tests;
+mod receiver_tests;
+mod verdict;
 
 pub use colour::TetraColour;
 pub use fault::Fault;

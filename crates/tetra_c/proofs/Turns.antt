@@ -1,5 +1,5 @@
 -- A receiver as C has it, one slot on.
-use Rattle.std.proofs.Common.{ℕ, ◌-◌, ◌+◌, ◌<◌, ◌≤◌, ◌≡◌, ◌≢◌, ℤ, List, [], ◌∷◌, ◌++◌, Some, None, length, set, get_or, arith, ap, sym, ◌∙◌, nat_eq, true, false, subst}
+use Rattle.std.proofs.Common.{ℕ, ◌-◌, ◌+◌, ◌<◌, ◌≡◌, ◌≢◌, ℤ, List, [], ◌∷◌, ◌++◌, Some, None, length, set, get_or, arith, ap, sym, ◌∙◌, nat_eq, true, false, subst}
 use Rattle.std.proofs.lemmas.Bool.{ne_eqb, eq-eqb}
 use Rattle.std.proofs.lemmas.List.{length_push}
 use Rattle.tetra_audit.specs.Fields.{claim_length}

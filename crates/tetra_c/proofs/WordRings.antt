@@ -1,18 +1,17 @@
 -- The slot words that are kept of a timeslot, one word on.
-use Rattle.std.proofs.Common.{ℕ, ◌+◌, ◌-◌, ◌%◌, ◌<◌, ◌≤◌, ◌≡◌, ℤ, pos, List, [], ◌∷◌, ◌++◌, length, map, take, set, arith, refl, ap, sym, ◌∙◌, subst}
+use Rattle.std.proofs.Common.{ℕ, ◌+◌, ◌-◌, ◌<◌, ◌≤◌, ◌≡◌, ℤ, pos, List, [], ◌∷◌, ◌++◌, length, map, take, arith, ap, sym, ◌∙◌}
 use Rattle.std.specs.Prelude.{IsTrue, All}
 use Rattle.std.proofs.lemmas.List.{length-map, length-take-le, drop_all}
 use Rattle.tetra_bits.specs.Numbered.{is_numbered, length-numbered, get_or-numbered}
 use Rattle.tetra_bits.specs.Soft.{value_at}
-use Rattle.tetra_diag.specs.Diagonal.{last}
-use Rattle.tetra_diag.specs.Ring.{IsRing, Puts, turned}
+use Rattle.tetra_diag.specs.Ring.{IsRing, Puts}
 use Rattle.tetra_diag.specs.lemmas.Rings.{turned_put, ring_put}
 use Rattle.tetra_c.specs.KeptWords.{word_values, kept_words, KeepsLast}
 use Rattle.tetra_c.specs.Rings.{is_ring}
 use Rattle.tetra_c.specs.Values.{clamped}
 use Rattle.tetra_c.specs.declared.kept_words.TetraKeptWord.{TetraKeptWord}
 use Rattle.tetra_c.specs.declared.kept_words.TetraKeptWords.{TetraKeptWords}
-use Rattle.tetra_c.proofs.RingTests.{IsKeptRing, ring_says, ring_holds}
+use Rattle.tetra_c.proofs.RingTests.{ring_says, ring_holds}
 
 pub word_size : (word : TetraKeptWord) → length (word_values word) ≡ 432
 word_size word = length-numbered (λ k. clamped (value_at word.values (k - 1))) 432

@@ -32,6 +32,6 @@ pub use settings::TetraSettings;
 pub use verdict::TetraVerdict;
 
 #[cfg(test)]
-mod sender_tests;
+mod receiver_tests;
 #[cfg(test)]
-mod tests;
+mod sender_tests;

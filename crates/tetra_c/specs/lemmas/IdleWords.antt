@@ -1,5 +1,5 @@
 -- Where blocks are not spread, anything that is kept stands for any words.
-use Rattle.std.proofs.Common.{ℕ, ◌≤◌, List, ℤ, arith}
+use Rattle.std.proofs.Common.{List, ℤ, arith}
 use Rattle.tetra_c.specs.KeptWords.{KeptStands}
 use Rattle.tetra_c.specs.declared.kept_words.TetraKeptWords.{TetraKeptWords}
 

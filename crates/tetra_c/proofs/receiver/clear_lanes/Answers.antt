@@ -1,4 +1,4 @@
-use Rattle.std.proofs.Common.{rules, ◌<◌, ◌≡◌, ◌≢◌, inl, inr, length, set, get_or, arith, refl, length-set}
+use Rattle.std.proofs.Common.{rules, ◌<◌, inl, inr, length, arith, length-set}
 use Rattle.std.proofs.lemmas.Bool.{cases_eq}
 use Rattle.std.proofs.lemmas.List.{get_or-set_same, get_or-set_other}
 use Rattle.tetra_c.specs.Receivers.{none_kept}

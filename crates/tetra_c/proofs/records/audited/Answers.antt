@@ -1,12 +1,9 @@
-use Rattle.std.proofs.Common.{◌≡◌, ◌≢◌, ◌<◌, ◌+◌, Some, None, length, arith, refl, sym, ◌∙◌, subst}
+use Rattle.std.proofs.Common.{◌≡◌, ◌≢◌, ◌<◌, ◌+◌, length, arith, refl, sym, ◌∙◌, subst}
 use Rattle.tetra_audit.specs.Fields.{claim_length}
-use Rattle.tetra_audit.specs.Verdicts.{slot_verdict}
 use Rattle.tetra_session.specs.Heard.{slot_front}
 use Rattle.tetra_settings.specs.Slots.{timeslot_of}
 use Rattle.tetra_c.specs.Receivers.{ReceiverIs}
-use Rattle.tetra_c.specs.Records.{audit_for, claim_fault}
 use Rattle.tetra_c.specs.Values.{soft_values}
-use Rattle.tetra_c.specs.declared.fault.Fault.TheVariants.{Length}
 use Rattle.tetra_c.proofs.Turns.{lane_now, receiver_turned, other_length, same_length}
 use Rattle.tetra_c.proofs.records.audited.Goals as goal
 

@@ -1,4 +1,6 @@
 // Each export once, as C calls it: what its clauses say of all values holds of these, and a call can succeed.
+ghost use Rattle.std.specs.Prelude.{◌≤◌};
+
 use crate::check::tetra_check;
 use crate::readings::{TetraField, TetraReading};
 use crate::receiver::{TetraReceiver, tetra_receiver_init, tetra_receiver_slot};
@@ -47,6 +49,13 @@ fn no_field() -> TetraField {
     }
 }
 
+/// The first bytes of a record.
+fn claim(bytes: &[u8; 18743], len: usize) -> &[u8]
+    requires { len ≤ 18743 }
+{
+    &bytes[..len]
+}
+
 #[test]
 fn slots_are_read(rt: HostRuntime) {
     let mut receiver = no_receiver();
@@ -55,10 +64,16 @@ fn slots_are_read(rt: HostRuntime) {
         count: 9,
         fields: [no_field(), no_field(), no_field(), no_field()],
     };
-    assert_eq!(rt; tetra_receiver_slot(&mut receiver, &[1; 510], &mut reading), -7);
+    assert_eq!(rt;
+        tetra_receiver_slot(&mut receiver, &[1; 510], &mut reading),
+        -7
+    );
     assert_eq!(rt; reading.count, 9);
     assert_eq!(rt; tetra_receiver_init(&mut receiver, &SETTINGS), 0);
-    assert_eq!(rt; tetra_receiver_slot(&mut receiver, &[1; 510], &mut reading), 0);
+    assert_eq!(rt;
+        tetra_receiver_slot(&mut receiver, &[1; 510], &mut reading),
+        0
+    );
     assert_eq!(rt; receiver.turn, 1);
     assert_eq!(rt; reading.letter, b'F');
     assert_eq!(rt; reading.count, 1);
@@ -87,13 +102,13 @@ fn records_are_audited(rt: HostRuntime) {
         certificate: NO_VERDICT,
     };
     assert_eq!(rt;
-        tetra_receiver_audit(&mut receiver, &[1; 510], &bytes[..9287], &mut audit),
+        tetra_receiver_audit(&mut receiver, &[1; 510], claim(&bytes, 9287), &mut audit),
         -1
     );
     assert_eq!(rt; audit.test, 9);
     assert_eq!(rt; receiver.turn, 0);
     assert_eq!(rt;
-        tetra_receiver_audit(&mut receiver, &[1; 510], &bytes[..9288], &mut audit),
+        tetra_receiver_audit(&mut receiver, &[1; 510], claim(&bytes, 9288), &mut audit),
         0
     );
     assert_eq!(rt; audit.test, 0);
@@ -104,12 +119,27 @@ fn records_are_audited(rt: HostRuntime) {
 fn certificates_are_checked(rt: HostRuntime) {
     let rows = [[0; 16]; 289];
     let mut verdict = NO_VERDICT;
-    assert_eq!(rt; tetra_check(4, &[1; 432], &[0; 284], &rows, &mut verdict), 0);
+    assert_eq!(rt;
+        tetra_check(4, &[1; 432], &[0; 284], &rows, &mut verdict),
+        0
+    );
     assert_eq!(rt; verdict.rule, 0);
-    assert_eq!(rt; tetra_check(4, &[1; 432], &[1; 284], &rows, &mut verdict), 0);
+    assert_eq!(rt;
+        tetra_check(4, &[1; 432], &[1; 284], &rows, &mut verdict),
+        0
+    );
     assert_eq!(rt; verdict.rule, 4);
-    assert_eq!(rt; tetra_check(5, &[1; 432], &[0; 284], &rows, &mut verdict), -9);
-    assert_eq!(rt; tetra_check(4, &[1; 432], &[0; 283], &rows, &mut verdict), -1);
-    assert_eq!(rt; tetra_check(4, &[1; 432], &[2; 284], &rows, &mut verdict), -2);
+    assert_eq!(rt;
+        tetra_check(5, &[1; 432], &[0; 284], &rows, &mut verdict),
+        -9
+    );
+    assert_eq!(rt;
+        tetra_check(4, &[1; 432], &[0; 283], &rows, &mut verdict),
+        -1
+    );
+    assert_eq!(rt;
+        tetra_check(4, &[1; 432], &[2; 284], &rows, &mut verdict),
+        -2
+    );
     assert_eq!(rt; verdict.rule, 4);
 }

@@ -78,27 +78,21 @@ module _ (law : FieldsHaveSizes) (settings : Settings) (key : List Bool) (block 
     fields = rw f (All-map IsField (field_of_place settings key block soft) places (All-weaker (FitsSpot settings.dir) (λ place. IsField (field_of_place settings key block soft place)) read_formed places are.fit));
   }
 
-  all_bounded : (top : ℕ) → IfSome block (AllWithin top) → AllWithin top soft → (places : List Place) → All (FitsSpot settings.dir) places
+  pub all_bounded : (top : ℕ) → IfSome block (AllWithin top) → AllWithin top soft → (places : List Place) → All (FitsSpot settings.dir) places
       → All (IsBounded top) (map (field_of_place settings key block soft) places)
   all_bounded top of_block of_soft places fit =
       All-map (IsBounded top) (field_of_place settings key block soft) places (All-weaker (FitsSpot settings.dir) (λ place. IsBounded top (field_of_place settings key block soft place)) (read_bounded top of_block of_soft) places fit)
 
-module _ (settings s : Settings) (history : List (List ℤ)) (soft : List ℤ) (turn byte : ℕ) (letter : Letter) (key : List Bool)
-    (block : Option (List ℤ)) (places : List Place) (same : s ≡ settings) (turns : turn ≡ length history) (keyed : key ≡ key_of s.colour)
-    (lettered : letter ≡ letter_heard s turn soft) (bytes : byte ≡ byte_of letter)
-    (placed : places ≡ places_of s.dir letter (mode_of s turn) (second_stolen s.dir key soft))
+module _ (settings : Settings) (history : List (List ℤ)) (soft : List ℤ) (turn byte : ℕ) (letter : Letter) (key : List Bool)
+    (block : Option (List ℤ)) (places : List Place) (turns : turn ≡ length history) (keyed : key ≡ key_of settings.colour)
+    (lettered : letter ≡ letter_heard settings turn soft) (bytes : byte ≡ byte_of letter)
+    (placed : places ≡ places_of settings.dir letter (mode_of settings turn) (second_stolen settings.dir key soft))
     (blocked : use_of settings (length history) ≡ Traffic → 1 ≤ depth (mode_of settings (length history)) → block ≡ block_heard settings history soft) where
   letter_is : letter ≡ letter_heard settings (length history) soft
-  letter_is = lettered ∙ ap (λ z. letter_heard z turn soft) same ∙ ap (λ t. letter_heard settings t soft) turns
+  letter_is = lettered ∙ ap (λ t. letter_heard settings t soft) turns
 
   byte_is : byte ≡ byte_of (letter_heard settings (length history) soft)
   byte_is = bytes ∙ ap byte_of letter_is
-
-  key_is : key ≡ key_of settings.colour
-  key_is = keyed ∙ ap (λ z. key_of z.colour) same
-
-  stolen_is : second_stolen s.dir key soft ≡ second_stolen settings.dir (key_of settings.colour) soft
-  stolen_is = ap (λ k. second_stolen s.dir k soft) key_is ∙ ap (λ z. second_stolen z.dir (key_of settings.colour) soft) same
 
   abbrev all : List Place
   all =
@@ -107,37 +101,34 @@ module _ (settings s : Settings) (history : List (List ℤ)) (soft : List ℤ) (
 
   places_are : places ≡ all
   places_are =
-      placed ∙ ap (places_of s.dir letter (mode_of s turn)) stolen_is
-      ∙ ap (λ l. places_of s.dir l (mode_of s turn) (second_stolen settings.dir (key_of settings.colour) soft)) letter_is
-      ∙ ap (λ z. places_of z.dir (letter_heard settings (length history) soft) (mode_of z turn) (second_stolen settings.dir (key_of settings.colour) soft)) same
+      placed ∙ ap (λ k. places_of settings.dir letter (mode_of settings turn) (second_stolen settings.dir k soft)) keyed
+      ∙ ap (λ l. places_of settings.dir l (mode_of settings turn) (second_stolen settings.dir (key_of settings.colour) soft)) letter_is
       ∙ ap (λ t. places_of settings.dir (letter_heard settings (length history) soft) (mode_of settings t) (second_stolen settings.dir (key_of settings.colour) soft)) turns
 
   block_gives : map (field_heard settings.dir (key_of settings.colour) block soft) all ≡ map (field_heard settings.dir (key_of settings.colour) (block_heard settings history soft) soft) all
   block_gives = fields_same settings (length history) settings.dir (key_of settings.colour) soft (second_stolen settings.dir (key_of settings.colour) soft) block (block_heard settings history soft) blocked
 
-  pub front_is : (fields : ArrayVec FrontField) → fields.items ≡ map (field_heard s.dir key block soft) places → front_made byte fields ≡ slot_front settings history soft
+  pub front_is : (fields : ArrayVec FrontField) → fields.items ≡ map (field_heard settings.dir key block soft) places → front_made byte fields ≡ slot_front settings history soft
   unfolding slot_front fields_heard
   front_is fields e =
       let items : fields.items ≡ map (field_heard settings.dir (key_of settings.colour) (block_heard settings history soft) soft) all =
-      e ∙ ap (λ p. map (field_heard s.dir key block soft) p) places_are
-      ∙ ap (λ k. map (field_heard s.dir k block soft) all) key_is
-      ∙ ap (λ z. map (field_heard z.dir (key_of settings.colour) block soft) all) same
+      e ∙ ap (λ p. map (field_heard settings.dir key block soft) p) places_are
+      ∙ ap (λ k. map (field_heard settings.dir k block soft) all) keyed
       ∙ block_gives in
       rw (byte_is, ← items) refl
 
   -- the fields of the reading
-  fields_are : (fields : List Field) → fields ≡ map (field_of_place s key block soft) places
+  fields_are : (fields : List Field) → fields ≡ map (field_of_place settings key block soft) places
       → fields ≡ map (field_of_place settings (key_of settings.colour) (block_heard settings history soft) soft) all
   unfolding field_of_place
   fields_are fields e =
-      e ∙ ap (λ p. map (field_of_place s key block soft) p) places_are
-      ∙ ap (λ k. map (field_of_place s k block soft) all) key_is
-      ∙ ap (λ z. map (field_of_place z (key_of settings.colour) block soft) all) same
+      e ∙ ap (λ p. map (field_of_place settings key block soft) p) places_are
+      ∙ ap (λ k. map (field_of_place settings k block soft) all) keyed
       ∙ sym (map-map (read_field settings.rows.0) (field_heard settings.dir (key_of settings.colour) block soft) all)
       ∙ ap (map (read_field settings.rows.0)) block_gives
       ∙ map-map (read_field settings.rows.0) (field_heard settings.dir (key_of settings.colour) (block_heard settings history soft) soft) all
 
-  pub reading_is : (fields : ArrayVec Field) → fields.items ≡ map (field_of_place s key block soft) places → reading_made byte fields ≡ slot_reading settings history soft
+  pub reading_is : (fields : ArrayVec Field) → fields.items ≡ map (field_of_place settings key block soft) places → reading_made byte fields ≡ slot_reading settings history soft
   unfolding slot_reading slot_front fields_heard read_front field_of_place
   reading_is fields e =
       let items : fields.items ≡ map (read_field settings.rows.0) (map (field_heard settings.dir (key_of settings.colour) (block_heard settings history soft) soft) all) =
@@ -145,11 +136,10 @@ module _ (settings s : Settings) (history : List (List ℤ)) (soft : List ℤ) (
       ∙ sym (map-map (read_field settings.rows.0) (field_heard settings.dir (key_of settings.colour) (block_heard settings history soft) soft) all) in
       rw (byte_is, ← items) refl
 
-  pub reading_bounded : FieldsHaveSizes → length soft ≡ 510 → (fields : List Field) → ArePlaces s.dir letter places → fields ≡ map (field_of_place s key block soft) places
+  pub reading_bounded : FieldsHaveSizes → length soft ≡ 510 → (fields : List Field) → ArePlaces settings.dir letter places → fields ≡ map (field_of_place settings key block soft) places
       → (top : ℕ) → All (AllWithin top) history → AllWithin top soft → All (IsBounded top) fields
   reading_bounded law size fields are e top earlier last =
-      let dir : settings.dir ≡ s.dir = ap (λ (z : Settings). z.dir) (sym same) in
-      let fit : All (FitsSpot settings.dir) all = rw (← places_are, dir) are.fit in
+      let fit : All (FitsSpot settings.dir) all = rw (← places_are) are.fit in
       rw (fields_are fields e)
       (all_bounded law settings (key_of settings.colour) (block_heard settings history soft) soft size (block_size settings history soft) top
       (block_within top settings history soft earlier last) last all fit)

@@ -1,7 +1,8 @@
 pub mod Fitting
 pub mod Lanes
+pub mod Turning
 pub mod FittingData
-pub mod Sending
+pub mod SlotBursts
 pub mod WrittenOver
 pub mod Loads
 pub mod GatherLanes

@@ -26,7 +26,7 @@ use Rattle.tetra_settings.specs.declared.readings.Field.{Field}
 use Rattle.tetra_settings.specs.declared.readings.SlotReading.{SlotReading}
 use Rattle.tetra_session.specs.Readers.{reader, heard_by, read_field, read_front}
 use Rattle.tetra_session.specs.Spots.{is_downlink, place, load_place, places_of, spot_values}
-use Rattle.tetra_session.specs.Four.{all_brought, FourStand}
+use Rattle.tetra_session.specs.Four.{all_brought, FourStand, TurnStands}
 use Rattle.tetra_session.specs.Time.{depth}
 use Rattle.tetra_session.specs.declared.front.FrontField.{FrontField}
 use Rattle.tetra_session.specs.declared.front.Front.{Front}
@@ -172,6 +172,11 @@ GatherLaneStands n words Still = n ≡ 0
 GatherLaneStands n words (One gather) = (n ≡ 1) × GatherStands 1 words gather
 GatherLaneStands n words (Four gather) = (n ≡ 4) × GatherStands 4 words gather
 GatherLaneStands n words (Eight gather) = (n ≡ 8) × GatherStands 8 words gather
+
+-- a lane, of any form, of the timeslot of slot t stands for the slot words that its slots brought
+abbrev pub HeardStands : {L : Type 0} → (ℕ → List (List ℤ) → L → Type 0) → Settings → ℕ → List (List ℤ) → L → Type 0
+HeardStands Stands settings t history lane =
+    TurnStands Stands (word_heard settings.dir (key_of settings.colour)) settings t history lane
 
 pub record ReceiverStands (settings : Settings) (history : List (List ℤ)) (receiver : Receiver) : Type 0 where
   pub same : receiver.settings ≡ settings

@@ -19,7 +19,7 @@ use Rattle.tetra_settings.specs.declared.blocks.Body.{Body}
 use Rattle.tetra_settings.specs.declared.blocks.Body.TheVariants.{Full, Halves, Sync, Traffic, Stolen, Both, Control}
 use Rattle.tetra_settings.specs.declared.blocks.SlotBlocks.{SlotBlocks}
 use Rattle.tetra_speech.specs.Words.{whole_type4, half_type4}
-use Rattle.tetra_session.specs.Four.{all_brought, FourStand}
+use Rattle.tetra_session.specs.Four.{all_brought, FourStand, TurnStands}
 use Rattle.tetra_session.specs.Time.{span_slots}
 use Rattle.tetra_session.specs.declared.sender.Sender.{Sender}
 use Rattle.tetra_session.specs.declared.spreading.SpreadLane.{SpreadLane}
@@ -149,6 +149,10 @@ SpreadLaneStands n blocks Still = n ≡ 0
 SpreadLaneStands n blocks (One spread) = (n ≡ 1) × SpreadStands 1 blocks spread
 SpreadLaneStands n blocks (Four spread) = (n ≡ 4) × SpreadStands 4 blocks spread
 SpreadLaneStands n blocks (Eight spread) = (n ≡ 8) × SpreadStands 8 blocks spread
+
+-- a lane, of any form, of the timeslot of slot t stands for the blocks that its slots brought
+abbrev pub SentStands : {L : Type 0} → (ℕ → List (List Bool) → L → Type 0) → Settings → ℕ → List SlotBlocks → L → Type 0
+SentStands Stands settings t history lane = TurnStands Stands block_sent settings t history lane
 
 pub record SenderStands (settings : Settings) (history : List SlotBlocks) (sender : Sender) : Type 0 where
   pub same : sender.settings ≡ settings

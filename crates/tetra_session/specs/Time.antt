@@ -1,5 +1,5 @@
 -- The mode of a timeslot, over how many slots its blocks are spread, and which slots of a history are its own.
-use Rattle.std.specs.Prelude.{ℕ, ◌+◌, ◌-◌, Bool, ◌&&◌, cond, nat_eq, nat_lt, List, [], ◌∷◌, slice_index_or}
+use Rattle.std.specs.Prelude.{ℕ, ◌≡◌, ◌⊎◌, ◌+◌, ◌-◌, Bool, ◌&&◌, cond, nat_eq, nat_lt, List, [], ◌∷◌, slice_index_or}
 use Rattle.tetra_settings.specs.Slots.{timeslot_of, frame_of}
 use Rattle.tetra_settings.specs.declared.types.Span.{Span}
 use Rattle.tetra_settings.specs.declared.types.Span.TheVariants.{One, Four, Eight}
@@ -24,6 +24,10 @@ depth D72 = 0
 depth (D48 span) = span_slots span
 depth (D24 span) = span_slots span
 depth Speech = 0
+
+-- such a number
+abbrev pub MayBeDepth : ℕ → Type 0
+MayBeDepth n = (n ≡ 0) ⊎ (n ≡ 1) ⊎ (n ≡ 4) ⊎ (n ≡ 8)
 
 -- slot t is one of timeslot c, in frames 1 to 17
 abbrev pub counts : ℕ → ℕ → ℕ → Bool

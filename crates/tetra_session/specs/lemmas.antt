@@ -3,6 +3,7 @@
 pub mod Valid
 pub mod Picked
 pub mod FourSteps
+pub mod Idle
 pub mod Same
 pub mod Places
 pub mod Values

@@ -8,12 +8,13 @@ ghost use Rattle.tetra_diag.specs.Diagonal.{gathered};
 ghost use Rattle.tetra_scramble.specs.Key.{zero_key_bits};
 ghost use Rattle.tetra_settings.specs.Readings.{sizes};
 ghost use Rattle.tetra_settings.specs.declared.slots.Letter.TheVariants as Letter;
-ghost use Rattle.tetra_session.specs.Heard.{GatherLaneStands, allowed_in, letter_by, place_values, second_stolen, is_good, is_spread, field_heard, field_of_place};
+ghost use Rattle.tetra_session.specs.Time.{MayBeDepth};
+ghost use Rattle.tetra_session.specs.Heard.{allowed_in, letter_by, place_values, second_stolen, is_good, is_spread, field_heard, field_of_place};
 ghost use Rattle.tetra_session.specs.Readers.{reader, read_by, field_reading};
 ghost use Rattle.tetra_session.specs.Spots.{FitsSpot, load_place, places_before_load};
 
 use crate::front::FrontField;
-use crate::gathering::GatherLane;
+use crate::gathering::Gathers;
 use crate::keys::Keys;
 use crate::spots::{Place, load_place, spot_into};
 use arrayvec::ArrayVec;
@@ -32,6 +33,30 @@ pub struct Scratch {
     pub type5: Soft,
     /// The values of a field, after its key.
     pub values: Soft,
+}
+
+/// What is filled on the way of a slot, kept so that it serves again for each: nothing in it rests on the slot before.
+#[derive(Drop)]
+pub struct Work {
+    /// Lists that are filled on the way.
+    pub scratch: Scratch,
+    /// The block of protected data that was complete with the last slot, where one was.
+    pub block: Option<Soft>,
+}
+
+impl Work {
+    /// Nothing filled yet.
+    pub fn new() -> Work
+        ensures { result.block ≡ None }
+    {
+        Work {
+            scratch: Scratch {
+                type5: Soft::new(),
+                values: Soft::new(),
+            },
+            block: None,
+        }
+    }
 }
 
 /// The training sequences that a slot may have. In control bursts none is asked for.
@@ -113,25 +138,27 @@ pub fn hear(
     }
 }
 
-/// Takes the load of a traffic slot into the lane of its timeslot, where it is a slot word of protected data. `block` is
-/// then the block that is complete with it, where one is. `scratch` is filled on the way.
-pub fn gather(
-    lane: &mut GatherLane,
+/// Takes the load of a traffic slot into the lane of its timeslot, where it is a slot word of protected data, spread over
+/// `depth` slots. `work.block` is then the block that is complete with it, where one is.
+pub fn gather<G: Gathers>(
+    lane: &mut G,
+    depth: usize,
     dir: Dir,
     load: Place,
     keys: &Keys,
     soft: &[i16; 510],
-    scratch: &mut Scratch,
-    block: &mut Option<Soft>,
+    work: &mut Work,
 )
+    requires depth { MayBeDepth depth }
     requires soft { AllSoft soft.now }
     requires none { keys.now.none ≡ zero_key_bits }
     requires place { FitsSpot dir load }
-    ensures block { (n : ℕ) (words : List (List ℤ)) → GatherLaneStands n words lane.old → 1 ≤ n → IsTrue (is_spread load.name)
-        → block.new ≡ gathered n (words ++ place_values dir keys.now.colour soft.now load ∷ []) }
-    ensures stands { (n : ℕ) (words : List (List ℤ)) → GatherLaneStands n words lane.old → (1 ≤ n → IsTrue (is_spread load.name))
-        → GatherLaneStands n (words ++ place_values dir keys.now.colour soft.now load ∷ []) lane.new }
-    ensures size { IfSome block.new (λ values. length values ≡ 432) }
+    ensures block { (words : List (List ℤ)) → G.Stands depth words lane.old → 1 ≤ depth → IsTrue (is_spread load.name)
+        → work.new.block ≡ gathered depth (words ++ place_values dir keys.now.colour soft.now load ∷ []) }
+    ensures stands { (words : List (List ℤ)) → G.Stands depth words lane.old
+        → IsTrue (is_spread load.name) → G.Stands depth (words ++ place_values dir keys.now.colour soft.now load ∷ []) lane.new }
+    ensures still { is_spread load.name ≡ false → lane.new ≡ lane.old }
+    ensures size { IfSome work.new.block (λ values. length values ≡ 432) }
 {
     if is_spread(load.name) {
         hear(
@@ -139,15 +166,24 @@ pub fn gather(
             load,
             keys,
             soft,
-            &mut scratch.type5,
-            &mut scratch.values,
+            &mut work.scratch.type5,
+            &mut work.scratch.values,
         );
-        let values = block.get_or_insert_with(Soft::new);
-        if !lane.push_into(&scratch.values, values) {
-            *block = None;
+        let values = work.block.get_or_insert_with(Soft::new);
+        if !lane.push_into(depth, &work.scratch.values, values) {
+            work.block = None;
         }
     } else {
-        *block = None;
+        work.block = None;
+    }
+}
+
+/// The values of a block are soft values.
+pub fn block_is_soft(block: &Option<Soft>)
+    ensures { IfSome block.now AllSoft }
+{
+    if let Some(values) = block {
+        let _ = values.len();
     }
 }
 

@@ -1,22 +1,18 @@
 // Receiving, slot by slot.
-ghost use Rattle.std.specs.Prelude.{◌≡◌, ◌<◌, ◌≤◌, ◌+◌, ◌++◌, ◌∷◌, [], List, ℕ, ℤ, IfSome, All, length, map};
+ghost use Rattle.std.specs.Prelude.{◌≡◌, ◌<◌, ◌++◌, ◌∷◌, [], List, ℕ, ℤ, All};
 ghost use Rattle.tetra_bits.specs.Soft.{AllSoft, AllWithin};
 ghost use Rattle.tetra_scramble.specs.Key.{key_of, zero_key_bits};
 ghost use Rattle.tetra_settings.specs.Validity.{IsValid};
 ghost use Rattle.tetra_session.specs.lemmas.Valid.{IsValid-prop};
 
-use crate::fields::{
-    Scratch, allowed_in, gather, hear_fields, hear_load, keep_fields, letter_by, load_by_front,
-    load_by_reading, read_fields, read_load,
-};
-use crate::front::{Front, FrontField};
+use crate::fields::Work;
+use crate::front::Front;
 use crate::gathering::GatherLane;
 use crate::keys::Keys;
-use crate::spots::{Place, has_load, is_downlink, places_before_load};
+use crate::receiving::{hear_turn, read_turn};
 use arrayvec::ArrayVec;
-use tetra_bits::{Bits, Mark, Reading, Soft};
-use tetra_bursts::{field_sizes, kind};
-use tetra_settings::{Field, Letter, Settings, SlotReading, clock, mode_at, slot_use};
+use tetra_bits::{Bits, Mark, Reading};
+use tetra_settings::{Settings, SlotReading, clock};
 
 /// A receiver of slots, four timeslots side by side. It stands for its settings and for the slots that it was given so
 /// far. This project's own.
@@ -28,9 +24,7 @@ pub struct Receiver {
     turn: u32,
     /// What is kept of timeslots 1 to 4.
     lanes: [GatherLane; 4],
-    /// The block of protected data that was complete with the last slot, where one was.
-    block: Option<Soft>,
-    scratch: Scratch,
+    work: Work,
     /// What block 2 of the last slot of data whose first half was stolen was read as, by `front`.
     half: Reading,
     ghost valid: { IsValid settings } by { IsValid-prop settings },
@@ -41,11 +35,7 @@ pub struct Receiver {
 impl Receiver {
     ghost use Rattle.tetra_settings.specs.Readings.{IsWellFormed};
     ghost use Rattle.tetra_session.specs.Fronts.{IsFront, IsBounded};
-    ghost use Rattle.tetra_settings.specs.Slots.{mode_of, use_of};
-    ghost use Rattle.tetra_settings.specs.declared.slots.SlotUse.TheVariants as SlotUse;
-    ghost use Rattle.tetra_session.specs.Time.{depth};
-    ghost use Rattle.tetra_session.specs.Spots.{load_place, places_of};
-    ghost use Rattle.tetra_session.specs.Heard.{ReceiverStands, letter_heard, second_stolen, block_heard, field_heard, field_of_place, slot_front, slot_reading};
+    ghost use Rattle.tetra_session.specs.Heard.{ReceiverStands, slot_front, slot_reading};
 
     /// A receiver before its first slot. The settings are valid.
     pub fn new(settings: &Settings) -> Receiver
@@ -63,11 +53,7 @@ impl Receiver {
                 GatherLane::new(third),
                 GatherLane::new(fourth),
             ],
-            block: None,
-            scratch: Scratch {
-                type5: Soft::new(),
-                values: Soft::new(),
-            },
+            work: Work::new(),
             half: Reading {
                 mark: Mark::Unchecked,
                 metric: 0,
@@ -75,143 +61,6 @@ impl Receiver {
                 potentials: None,
             },
         }
-    }
-
-    /// The letter of the slot whose turn it is, by the values of its 510 positions.
-    #[tactic(auto, unfolding(crate::specs::Heard::letter_heard))]
-    fn letter_heard(&self, soft: &[i16; 510]) -> Letter
-        requires { AllSoft soft.now }
-        ensures { result ≡ letter_heard self.now.settings self.now.turn soft.now }
-    {
-        let slot = slot_use(&self.settings, self.turn);
-        let dir = self.settings.dir;
-        letter_by(slot, kind(soft, is_downlink(dir), allowed_in(dir, slot)))
-    }
-
-    /// Takes the slot whose turn it is, with the place of its load, into what is kept of its timeslot. `block` is then the
-    /// block of protected data that is complete with it, where one is.
-    fn gather(&mut self, load: Option<Place>, soft: &[i16; 510])
-        requires few { self.old.turn < 16777216 }
-        requires soft { AllSoft soft.now }
-        requires load { load ≡ load_place (letter_heard self.old.settings self.old.turn soft.now)
-            (mode_of self.old.settings self.old.turn)
-            (second_stolen self.old.settings.dir self.old.keys.colour soft.now) }
-        ensures settings { self.new.settings ≡ self.old.settings }
-        ensures keys { self.new.keys ≡ self.old.keys }
-        ensures turn { self.new.turn ≡ self.old.turn + 1 }
-        ensures block { (settings : _) (history : List (List ℤ)) → ReceiverStands settings history self.old
-            → use_of settings (length history) ≡ SlotUse.Traffic → 1 ≤ depth (mode_of settings (length history))
-            → self.new.block ≡ block_heard settings history soft.now }
-        ensures size { IfSome self.new.block (λ values. length values ≡ 432) }
-        ensures stands { (settings : _) (history : List (List ℤ)) → ReceiverStands settings history self.old
-            → ReceiverStands settings (history ++ soft.now ∷ []) self.new }
-    {
-        let turn = self.turn;
-        self.turn += 1;
-        let (timeslot, _, _) = clock(self.settings.at, turn);
-        match load {
-            Some(load) => gather(
-                &mut self.lanes[usize::from(timeslot) - 1],
-                self.settings.dir,
-                load,
-                &self.keys,
-                soft,
-                &mut self.scratch,
-                &mut self.block,
-            ),
-            None => self.block = None,
-        }
-    }
-
-    /// Takes the slot whose turn it is, of this letter, and writes its fields with their values over those that are there.
-    fn hear_slot(&mut self, letter: Letter, soft: &[i16; 510], fields: &mut ArrayVec<FrontField, 4>)
-        requires few { self.old.turn < 16777216 }
-        requires soft { AllSoft soft.now }
-        requires letter { letter ≡ letter_heard self.old.settings self.old.turn soft.now }
-        ensures fields { fields.new.items
-            ≡ map (field_heard self.old.settings.dir self.old.keys.colour self.new.block soft.now)
-            (places_of self.old.settings.dir letter (mode_of self.old.settings self.old.turn)
-            (second_stolen self.old.settings.dir self.old.keys.colour soft.now)) }
-        ensures block { (settings : _) (history : List (List ℤ)) → ReceiverStands settings history self.old
-            → use_of settings (length history) ≡ SlotUse.Traffic → 1 ≤ depth (mode_of settings (length history))
-            → self.new.block ≡ block_heard settings history soft.now }
-        ensures size { IfSome self.new.block (λ values. length values ≡ 432) }
-        ensures stands { (settings : _) (history : List (List ℤ)) → ReceiverStands settings history self.old
-            → ReceiverStands settings (history ++ soft.now ∷ []) self.new }
-    {
-        let dir = self.settings.dir;
-        let places = places_before_load(dir, letter);
-        keep_fields(fields, places.len() + usize::from(has_load(letter)));
-        hear_fields(
-            dir,
-            &places,
-            &self.keys,
-            &None,
-            soft,
-            &mut self.scratch.type5,
-            fields,
-        );
-        let load = load_by_front(
-            letter,
-            mode_at(&self.settings, self.turn),
-            &fields[..places.len()],
-            &mut self.half,
-        );
-        self.gather(load, soft);
-        hear_load(
-            dir,
-            load,
-            &self.keys,
-            &self.block,
-            soft,
-            &mut self.scratch.type5,
-            fields,
-        );
-    }
-
-    /// Takes the slot whose turn it is, of this letter, and writes its fields with what is read of them over those that
-    /// are there.
-    fn read_slot(&mut self, letter: Letter, soft: &[i16; 510], fields: &mut ArrayVec<Field, 4>)
-        requires few { self.old.turn < 16777216 }
-        requires soft { AllSoft soft.now }
-        requires letter { letter ≡ letter_heard self.old.settings self.old.turn soft.now }
-        ensures fields { fields.new.items
-            ≡ map (field_of_place self.old.settings self.old.keys.colour self.new.block soft.now)
-            (places_of self.old.settings.dir letter (mode_of self.old.settings self.old.turn)
-            (second_stolen self.old.settings.dir self.old.keys.colour soft.now)) }
-        ensures block { (settings : _) (history : List (List ℤ)) → ReceiverStands settings history self.old
-            → use_of settings (length history) ≡ SlotUse.Traffic → 1 ≤ depth (mode_of settings (length history))
-            → self.new.block ≡ block_heard settings history soft.now }
-        ensures size { IfSome self.new.block (λ values. length values ≡ 432) }
-        ensures stands { (settings : _) (history : List (List ℤ)) → ReceiverStands settings history self.old
-            → ReceiverStands settings (history ++ soft.now ∷ []) self.new }
-    {
-        let places = places_before_load(self.settings.dir, letter);
-        keep_fields(fields, places.len() + usize::from(has_load(letter)));
-        read_fields(
-            &self.settings,
-            &places,
-            &self.keys,
-            &None,
-            soft,
-            &mut self.scratch,
-            fields,
-        );
-        let load = load_by_reading(
-            letter,
-            mode_at(&self.settings, self.turn),
-            &fields[..places.len()],
-        );
-        self.gather(load, soft);
-        read_load(
-            &self.settings,
-            load,
-            &self.keys,
-            &self.block,
-            soft,
-            &mut self.scratch,
-            fields,
-        );
     }
 
     /// The letter of the slot whose turn it is, and the soft values of its fields, from the values of
@@ -245,10 +94,20 @@ impl Receiver {
         ensures stands { (settings : _) (history : List (List ℤ)) → ReceiverStands settings history self.old
             → ReceiverStands settings (history ++ soft.now ∷ []) self.new }
     {
-        let letter = self.letter_heard(soft);
-        front.letter = letter.byte();
-        self.hear_slot(letter, soft, &mut front.fields);
-        field_sizes();
+        let turn = self.turn;
+        self.turn += 1;
+        let (timeslot, _, _) = clock(self.settings.at, turn);
+        let lane = &mut self.lanes[usize::from(timeslot) - 1];
+        hear_turn(
+            &self.settings,
+            &self.keys,
+            turn,
+            lane,
+            &mut self.work,
+            &mut self.half,
+            soft,
+            front,
+        );
     }
 
     /// The reading of the slot whose turn it is, from the values of its 510 positions, each from -`SOFT_MAX` to
@@ -285,9 +144,18 @@ impl Receiver {
         ensures stands { (settings : _) (history : List (List ℤ)) → ReceiverStands settings history self.old
             → ReceiverStands settings (history ++ soft.now ∷ []) self.new }
     {
-        let letter = self.letter_heard(soft);
-        reading.letter = letter.byte();
-        self.read_slot(letter, soft, &mut reading.fields);
-        field_sizes();
+        let turn = self.turn;
+        self.turn += 1;
+        let (timeslot, _, _) = clock(self.settings.at, turn);
+        let lane = &mut self.lanes[usize::from(timeslot) - 1];
+        read_turn(
+            &self.settings,
+            &self.keys,
+            turn,
+            lane,
+            &mut self.work,
+            soft,
+            reading,
+        );
     }
 }

@@ -1,13 +1,13 @@
 -- Four timeslots, one slot on.
 use Prim.Native.Nat.{zero, suc}
-use Rattle.std.proofs.Common.{ℕ, ◌-◌, ◌<◌, ◌≤◌, ◌≡◌, ◌≢◌, inl, inr, length, set, map, List, [], ◌∷◌, ◌++◌, arith, true, false, ◌∙◌, sym, ap, get_or}
+use Rattle.std.proofs.Common.{ℕ, ◌-◌, ◌<◌, ◌≤◌, ◌≡◌, ◌≢◌, inl, inr, length, set, map, List, [], ◌∷◌, ◌++◌, arith, true, false, ◌∙◌, sym, ap, refl, get_or}
 use Rattle.std.proofs.lemmas.List.{map-append, get_or-set_same, get_or-set_other, get_or_default}
 use Rattle.std.proofs.lemmas.Bool.{cases_eq}
 use Rattle.tetra_settings.specs.Slots.{timeslot_of, mode_of, use_of}
 use Rattle.tetra_settings.specs.declared.types.Mode.{Mode}
 use Rattle.tetra_settings.specs.declared.types.Settings.{Settings}
 use Rattle.tetra_settings.specs.declared.slots.SlotUse.TheVariants.{Traffic}
-use Rattle.tetra_session.specs.Four.{all_brought, FourStand}
+use Rattle.tetra_session.specs.Four.{all_brought, FourStand, TurnStands}
 use Rattle.tetra_session.specs.Time.{own, timeslot_mode, depth, counts}
 use Rattle.tetra_session.specs.lemmas.Picked.{own_other, own_more, counts_elsewhere, counts_here, counts_silent}
 
@@ -78,3 +78,60 @@ module _ {X Y L : Type 0} (Stands : ℕ → List Y → L → Type 0) (brought : 
   four_now settings history lanes c seen z e low high h =
       let m : c - 1 < length lanes = omega (arith, z) in
       rw (← e, get_or_default lanes (c - 1) seen none m) (h c low high)
+
+  -- for the slot whose turn it is its lane stands
+  pub turn_now : (settings : Settings) (t : ℕ) (history : List X) (lanes : List L) (c : ℕ) (seen : L) → t ≡ length history → length lanes ≡ 4 → c ≡ timeslot_of settings.at t → 1 ≤ c → c ≤ 4
+      → FourStand Stands brought none settings history lanes → TurnStands Stands brought settings t history (get_or lanes (c - 1) seen)
+  turn_now settings t history lanes c seen turn z e low high h =
+      let here : c ≡ timeslot_of settings.at (length history) = e ∙ ap (timeslot_of settings.at) turn in
+      rw (turn, ← here) (four_now settings history lanes c seen z here low high h)
+
+  -- where the lane of the slot whose turn it is stands with that slot behind it, all four do
+  pub four_turned : (settings : Settings) (t : ℕ) (history : List X) (x : X) (lanes : List L) (c : ℕ) (lane : L) → t ≡ length history → length lanes ≡ 4 → c ≡ timeslot_of settings.at t → 1 ≤ c → c ≤ 4
+      → TurnStands Stands brought settings t (history ++ x ∷ []) lane
+      → FourStand Stands brought none settings history lanes → FourStand Stands brought none settings (history ++ x ∷ []) (set lanes (c - 1) lane)
+  unfolding mode_of
+  four_turned settings t history x lanes c lane turn z e low high stands h =
+      λ k kl kh. elim (cases_eq k c) [
+        | inl same ↦
+            let m : c - 1 < length lanes = omega (arith, z) in
+            let r : get_or (set lanes (c - 1) lane) (k - 1) none ≡ lane = ap (λ i. get_or (set lanes (c - 1) lane) (i - 1) none) same ∙ get_or-set_same lanes (c - 1) lane none m in
+            let there : Stands (depth (timeslot_mode settings c)) (all_brought brought settings c (history ++ x ∷ [])) lane = rw e stands in
+            rw (r, same) there
+        | inr other ↦
+            let n : k - 1 ≢ c - 1 = λ q. other (omega (arith, q)) in
+            let r : get_or (set lanes (c - 1) lane) (k - 1) none ≡ get_or lanes (k - 1) none = get_or-set_other lanes (c - 1) (k - 1) lane none n in
+            let apart : k ≢ timeslot_of settings.at (length history) = λ q. other (q ∙ sym (e ∙ ap (timeslot_of settings.at) turn)) in
+            rw r (lane_other settings history x k (get_or lanes (k - 1) none) (counts_elsewhere settings.at k (length history) apart) (h k kl kh))
+      ]
+
+-- the lane of the slot whose turn it is, with that slot behind it
+module _ {X Y L : Type 0} (Stands : ℕ → List Y → L → Type 0) (brought : Mode → X → Y) (settings : Settings) (t : ℕ) (history : List X) (x : X) (lane : L) where
+  -- nothing is spread
+  pub turn_idle : ((pushed more : List Y) (l : L) → Stands 0 pushed l → Stands 0 more l) → depth (mode_of settings t) ≡ 0
+      → TurnStands Stands brought settings t history lane → TurnStands Stands brought settings t (history ++ x ∷ []) lane
+  turn_idle idle none h =
+      let c = timeslot_of settings.at t in
+      let before : Stands 0 (all_brought brought settings c history) lane = rw none at h in
+      rw none (idle (all_brought brought settings c history) (all_brought brought settings c (history ++ x ∷ [])) lane before)
+
+  -- the slot carries no traffic
+  pub turn_silent : t ≡ length history → ((pushed more : List Y) (l : L) → Stands 0 pushed l → Stands 0 more l) → use_of settings t ≢ Traffic
+      → TurnStands Stands brought settings t history lane → TurnStands Stands brought settings t (history ++ x ∷ []) lane
+  unfolding mode_of
+  turn_silent turn idle silent h =
+      let c = timeslot_of settings.at t in
+      elim (counts_silent settings c t silent) [
+        | inl e ↦ turn_idle idle e h
+        | inr e ↦ lane_other Stands brought lane settings history x c lane (ap (counts settings.at c) (sym turn) ∙ e) h
+      ]
+
+  -- it took what the slot brings
+  pub turn_taken : t ≡ length history → use_of settings t ≡ Traffic
+      → Stands (depth (mode_of settings t)) (all_brought brought settings (timeslot_of settings.at t) history ++ brought (mode_of settings t) x ∷ []) lane
+      → TurnStands Stands brought settings t (history ++ x ∷ []) lane
+  unfolding mode_of
+  turn_taken turn traffic h =
+      let c = timeslot_of settings.at t in
+      let counted : counts settings.at c (length history) ≡ true = ap (counts settings.at c) (sym turn) ∙ counts_here settings c t refl traffic in
+      rw (brought_more Stands brought lane settings c history x counted) h

@@ -1,13 +1,12 @@
-use Rattle.tetra_session.specs.Sent.{SpreadLaneStands}
 use Rattle.tetra_session.specs.Time.{span_slots}
 use Rattle.tetra_session.proofs.spreading.load_word.Goals as goal
 
 pub returns-in-D48-clause-stands : goal.returns-in-D48-clause-stands
-returns-in-D48-clause-stands c = λ before h.
-    let here : SpreadLaneStands (span_slots c.in-D48.field-0) before c.args.lane.now = rw c.in-D48.is at h in
-    rw (c.in-D48.is, ← c.type3.ensures.bits) (c.push.ensures.stands (span_slots c.in-D48.field-0) before here)
+returns-in-D48-clause-stands g c = λ before h.
+    let here : g.S.Spreads.Stands (span_slots c.in-D48.span) before c.args.lane.now = rw c.in-D48.is at h in
+    rw (c.in-D48.is, ← c.type3.ensures.bits) (c.next_word.ensures.stands before here)
 
 pub returns-in-D24-clause-stands : goal.returns-in-D24-clause-stands
-returns-in-D24-clause-stands c = λ before h.
-    let here : SpreadLaneStands (span_slots c.in-D24.field-0) before c.args.lane.now = rw c.in-D24.is at h in
-    rw (c.in-D24.is, ← c.type3-in-D24.ensures.bits) (c.push-in-D24.ensures.stands (span_slots c.in-D24.field-0) before here)
+returns-in-D24-clause-stands g c = λ before h.
+    let here : g.S.Spreads.Stands (span_slots c.in-D24.span) before c.args.lane.now = rw c.in-D24.is at h in
+    rw (c.in-D24.is, ← c.type3-in-D24.ensures.bits) (c.next_word-in-D24.ensures.stands before here)

@@ -4,7 +4,7 @@ use Rattle.tetra_session.specs.Sent.{load_word, rest_word}
 use Rattle.tetra_session.proofs.spreading.rest_word.Goals as goal
 
 pub returns-in-D72-clause-word : goal.returns-in-D72-clause-word
-returns-in-D72-clause-word c = λ before h.
+returns-in-D72-clause-word g c = λ before h.
     let key = c.args.key.now in
     let mode = c.args.mode in
     let load = c.args.load.now in
@@ -17,5 +17,5 @@ returns-in-D72-clause-word c = λ before h.
     c.second_half.ensures.bits ∙ ap (drop 216) (c.load_word.ensures.word before h) ∙ same
 
 pub returns-in-Speech-clause-size : goal.returns-in-Speech-clause-size
-returns-in-Speech-clause-size c =
+returns-in-Speech-clause-size g c =
     ap length c.flip_bits.ensures ∙ length-flipped c.encode_half.result c.args.key.now 1 ∙ c.encode_half.ensures.size

@@ -1,152 +1,23 @@
-use Rattle.std.proofs.Common.{◌≡◌, length, arith, sym, ap, refl, ◌∙◌, Bor, Option, Some, None}
-use Rattle.std.specs.Option.{option_copied, option_map}
-use Rattle.tetra_bits.specs.declared.bits.Bits.{Bits}
-use Rattle.tetra_bursts.specs.declared.table.Train.TheVariants.{N, P}
-use Rattle.tetra_channels.specs.Channels.{half, type5_bits}
-use Rattle.tetra_settings.specs.Slots.{timeslot_of, mode_of}
-use Rattle.tetra_session.specs.Sent.{Normal, Synchronisation, Subslots, burst_of, blocks_sent, subslot_bits, whole, load_of, load_word}
-use Rattle.tetra_session.proofs.Fitting.{access_there, fits_traffic, fits_stolen, fits_both, full_no_traffic, halves_no_traffic, sync_no_traffic, subslots_no_traffic}
-use Rattle.tetra_session.proofs.Lanes.{stands_silent, stands_taken, lane_now}
-use Rattle.tetra_session.proofs.Sending.{slot_is, slot_of_sync, slot_of_subs}
+use Rattle.std.proofs.Common.{◌≡◌, ◌≤◌, length, arith, refl, ◌∙◌}
+use Rattle.tetra_settings.specs.Slots.{timeslot_of}
+use Rattle.tetra_session.proofs.Turning.{sent_now, sent_turned}
 use Rattle.tetra_session.proofs.sender.Sender.slot.Goals as goal
 
-pub load_word-word-requires-clause-carries : goal.load_word-word-requires-clause-carries
-load_word-word-requires-clause-carries c =
-    let s = c.args.self.now in
-    rw c.mode_at-mode.ensures.mode (fits_traffic s.settings s.turn c.args.blocks.now c.requires.fits c.in-Traffic.load c.in-Traffic.is).1
+pub returns-clause-slot : goal.returns-clause-slot
+returns-clause-slot c = λ settings history h.
+    let own = c.args.self.now in
+    let here : c.from.result ≡ timeslot_of own.settings.at own.turn = c.from.ensures ∙ c.clock-timeslot.ensures.timeslot in
+    let low : 1 ≤ c.from.result = rw c.from.ensures c.clock-timeslot.ensures.timeslots.0 in
+    let high : c.from.result ≤ 4 = rw c.from.ensures c.clock-timeslot.ensures.timeslots.1 in
+    rw (← h.same)
+    (c.send_turn.ensures.slot history h.turn (sent_now settings history own c.from.result h here low high (omega arith) c.index-self-from.result))
 
-pub whole-requires-in-Traffic-clause-access : goal.whole-requires-in-Traffic-clause-access
-whole-requires-in-Traffic-clause-access c = λ down.
-    let there = access_there c.args.self.now.settings.dir c.args.blocks.now.aach c.requires.fits.access down in
-    rw there.1 at c.access-access.ensures.size
-
-pub returns-in-Full-clause-slot : goal.returns-in-Full-clause-slot
-returns-in-Full-clause-slot c = λ settings history h.
-    let s = c.args.self.now in
-    let key = s.keys.colour in
-    let mode = mode_of s.settings s.turn in
-    let before = blocks_sent settings (timeslot_of settings.at (length history)) history in
-    c.whole.ensures ∙ slot_is settings s.settings history c.args.blocks.now s.turn key c.access-access.result h.same h.turn s.keyed c.access-access.ensures.bits
-    _ (ap (whole N) c.encode.ensures.bits ∙ ap (burst_of key mode before) (sym c.in-Full.is))
-
-pub returns-in-Halves-clause-slot : goal.returns-in-Halves-clause-slot
-returns-in-Halves-clause-slot c = λ settings history h.
-    let s = c.args.self.now in
-    let key = s.keys.colour in
-    c.halves.ensures ∙ slot_is settings s.settings history c.args.blocks.now s.turn key c.access-access.result h.same h.turn s.keyed c.access-access.ensures.bits
-    (Normal P (type5_bits half key c.in-Halves.first) (type5_bits half key c.in-Halves.second)) (rw c.in-Halves.is refl)
-
-pub returns-in-Sync-clause-slot : goal.returns-in-Sync-clause-slot
-returns-in-Sync-clause-slot c = λ settings history h.
-    let s = c.args.self.now in
-    let key = s.keys.colour in
-    c.sync_down.ensures.value ∙ sym (slot_of_sync s.settings.dir c.access-access.result c.encode-in-Sync.result c.encode-in-Sync-2.result)
-    ∙ slot_is settings s.settings history c.args.blocks.now s.turn key c.access-access.result h.same h.turn s.keyed c.access-access.ensures.bits
-    (Synchronisation c.encode-in-Sync.result c.encode-in-Sync-2.result) (rw (c.in-Sync.is, c.encode-in-Sync.ensures.bits, c.encode-in-Sync-2.ensures.bits, s.none_keyed) refl)
-
-pub returns-in-Traffic-clause-slot : goal.returns-in-Traffic-clause-slot
-returns-in-Traffic-clause-slot c = λ settings history h.
-    let s = c.args.self.now in
-    let key = s.keys.colour in
-    let mode = c.mode_at-mode.result in
-    let load = c.in-Traffic.load in
-    let before = blocks_sent settings (timeslot_of settings.at (length history)) history in
-    let four : length s.lanes ≡ 4 = omega arith in
-    let turn = c.clock-timeslot.ensures.timeslots in
-    let byte : c.from.result ≡ c.clock-timeslot.result.0 = c.from.ensures in
-    let kept = rw (← byte) at (lane_now settings history s c.clock-timeslot.result.0 mode c.index-self-from.result h c.clock-timeslot.ensures.timeslot turn.0 turn.1 c.mode_at-mode.ensures.mode four) in
-    c.whole-in-Traffic.ensures ∙ slot_is settings s.settings history c.args.blocks.now s.turn key c.access-access.result h.same h.turn s.keyed c.access-access.ensures.bits
-    _ (ap (whole N) (c.load_word-word.ensures.word before kept) ∙ (ap (λ m. whole N (load_word key m before load)) c.mode_at-mode.ensures.mode ∙ ap (burst_of key (mode_of s.settings s.turn) before) (sym c.in-Traffic.is)))
-
--- a subslot that is read through a loan
-copied : (sub : Option (Bor Bits)) → option_map (λ bits. bits.now) sub ≡ option_copied sub
-copied None = refl
-copied (Some bits) = refl
-
-pub returns-in-Control-clause-slot : goal.returns-in-Control-clause-slot
-returns-in-Control-clause-slot c = λ settings history h.
-    let s = c.args.self.now in
-    let key = s.keys.colour in
-    let first = subslot_bits key (option_map (λ bits. bits.now) c.as_ref.result) in
-    let second = subslot_bits key (option_map (λ bits. bits.now) c.as_ref-in-Control.result) in
-    let a : option_map (λ bits. bits.now) c.as_ref.result ≡ c.in-Control.first = copied c.as_ref.result ∙ c.as_ref.ensures.value in
-    let b : option_map (λ bits. bits.now) c.as_ref-in-Control.result ≡ c.in-Control.second = copied c.as_ref-in-Control.result ∙ c.as_ref-in-Control.ensures.value in
-    c.control.ensures ∙ sym (slot_of_subs s.settings.dir c.access-access.result first second)
-    ∙ slot_is settings s.settings history c.args.blocks.now s.turn key c.access-access.result h.same h.turn s.keyed c.access-access.ensures.bits
-    (Subslots first second) (rw (a, b, c.in-Control.is) refl)
-
-pub returns-in-Full-clause-stands : goal.returns-in-Full-clause-stands
-returns-in-Full-clause-stands c = λ settings history h.
-    let s = c.args.self.now in
-    stands_silent settings history c.args.blocks.now s _ h refl refl refl (full_no_traffic s.settings s.turn c.args.blocks.now c.requires.fits c.in-Full.block c.in-Full.is)
-
-pub returns-in-Halves-clause-stands : goal.returns-in-Halves-clause-stands
-returns-in-Halves-clause-stands c = λ settings history h.
-    let s = c.args.self.now in
-    stands_silent settings history c.args.blocks.now s _ h refl refl refl (halves_no_traffic s.settings s.turn c.args.blocks.now c.requires.fits c.in-Halves.first c.in-Halves.second c.in-Halves.is)
-
-pub returns-in-Sync-clause-stands : goal.returns-in-Sync-clause-stands
-returns-in-Sync-clause-stands c = λ settings history h.
-    let s = c.args.self.now in
-    stands_silent settings history c.args.blocks.now s _ h refl refl refl (sync_no_traffic s.settings s.turn c.args.blocks.now c.requires.fits c.in-Sync.sync c.in-Sync.half c.in-Sync.is)
-
-pub returns-in-Traffic-clause-stands : goal.returns-in-Traffic-clause-stands
-returns-in-Traffic-clause-stands c = λ settings history h.
-    let s = c.args.self.now in
-    let four : length s.lanes ≡ 4 = omega arith in
-    let turn = c.clock-timeslot.ensures.timeslots in
-    let traffic = fits_traffic s.settings s.turn c.args.blocks.now c.requires.fits c.in-Traffic.load c.in-Traffic.is in
-    let here = c.from.ensures ∙ c.clock-timeslot.ensures.timeslot in
-    stands_taken settings history c.args.blocks.now s _ c.from.result c.mode_at-mode.result c.in-Traffic.load c.index-self-from.result c.load_word-word.new.lane h refl refl here
-    (omega (arith, c.from.ensures, turn.0)) (omega (arith, c.from.ensures, turn.1)) c.mode_at-mode.ensures.mode refl four traffic.0 (ap load_of c.in-Traffic.is) c.load_word-word.ensures.stands
-
-pub returns-in-Control-clause-stands : goal.returns-in-Control-clause-stands
-returns-in-Control-clause-stands c = λ settings history h.
-    let s = c.args.self.now in
-    stands_silent settings history c.args.blocks.now s _ h refl refl refl (subslots_no_traffic s.settings s.turn c.args.blocks.now c.requires.fits c.in-Control.first c.in-Control.second c.in-Control.is)
-
-pub returns-in-Stolen-clause-slot : goal.returns-in-Stolen-clause-slot
-returns-in-Stolen-clause-slot c = λ settings history h.
-    let s = c.args.self.now in
-    let key = s.keys.colour in
-    let load = c.in-Stolen.load in
-    let before = blocks_sent settings (timeslot_of settings.at (length history)) history in
-    let four : length s.lanes ≡ 4 = omega arith in
-    let turn = c.clock-timeslot.ensures.timeslots in
-    let byte : c.from-in-Stolen.result ≡ c.clock-timeslot.result.0 = c.from-in-Stolen.ensures in
-    let kept = rw (← byte) at (lane_now settings history s c.clock-timeslot.result.0 c.mode_at-mode.result c.index-self-from-in-Stolen.result h c.clock-timeslot.ensures.timeslot turn.0 turn.1 c.mode_at-mode.ensures.mode four) in
-    c.normal.ensures ∙ slot_is settings s.settings history c.args.blocks.now s.turn key c.access-access.result h.same h.turn s.keyed c.access-access.ensures.bits
-    (Normal P c.encode-first.result c.rest_word-rest.result)
-    (rw (c.in-Stolen.is, c.encode-first.ensures.bits, c.rest_word-rest.ensures.word before kept, c.mode_at-mode.ensures.mode) refl)
-
-pub returns-in-Stolen-clause-stands : goal.returns-in-Stolen-clause-stands
-returns-in-Stolen-clause-stands c = λ settings history h.
-    let s = c.args.self.now in
-    let four : length s.lanes ≡ 4 = omega arith in
-    let turn = c.clock-timeslot.ensures.timeslots in
-    let traffic = fits_stolen s.settings s.turn c.args.blocks.now c.requires.fits c.in-Stolen.first c.in-Stolen.load c.in-Stolen.is in
-    let here = c.from-in-Stolen.ensures ∙ c.clock-timeslot.ensures.timeslot in
-    stands_taken settings history c.args.blocks.now s _ c.from-in-Stolen.result c.mode_at-mode.result c.in-Stolen.load c.index-self-from-in-Stolen.result c.rest_word-rest.new.lane h refl refl here
-    (omega (arith, c.from-in-Stolen.ensures, turn.0)) (omega (arith, c.from-in-Stolen.ensures, turn.1)) c.mode_at-mode.ensures.mode refl four traffic.0 (ap load_of c.in-Stolen.is) c.rest_word-rest.ensures.stands
-
-pub rest_word-rest-requires-clause-carries : goal.rest_word-rest-requires-clause-carries
-rest_word-rest-requires-clause-carries c =
-    let s = c.args.self.now in
-    rw c.mode_at-mode.ensures.mode (fits_stolen s.settings s.turn c.args.blocks.now c.requires.fits c.in-Stolen.first c.in-Stolen.load c.in-Stolen.is).1
-
-pub returns-in-Both-clause-slot : goal.returns-in-Both-clause-slot
-returns-in-Both-clause-slot c = λ settings history h.
-    let s = c.args.self.now in
-    let key = s.keys.colour in
-    c.halves-in-Both.ensures ∙ slot_is settings s.settings history c.args.blocks.now s.turn key c.access-access.result h.same h.turn s.keyed c.access-access.ensures.bits
-    (Normal P (type5_bits half key c.in-Both.first) (type5_bits half key c.in-Both.second)) (rw c.in-Both.is refl)
-
-pub returns-in-Both-clause-stands : goal.returns-in-Both-clause-stands
-returns-in-Both-clause-stands c = λ settings history h.
-    let s = c.args.self.now in
-    let four : length s.lanes ≡ 4 = omega arith in
-    let turn = c.clock-timeslot.ensures.timeslots in
-    let traffic = fits_both s.settings s.turn c.args.blocks.now c.requires.fits c.in-Both.first c.in-Both.second c.in-Both.load c.in-Both.is in
-    let here = c.from-in-Both.ensures ∙ c.clock-timeslot.ensures.timeslot in
-    stands_taken settings history c.args.blocks.now s _ c.from-in-Both.result c.mode_at-mode.result c.in-Both.load c.index-self-from-in-Both.result c.take_load.new.lane h refl refl here
-    (omega (arith, c.from-in-Both.ensures, turn.0)) (omega (arith, c.from-in-Both.ensures, turn.1)) c.mode_at-mode.ensures.mode refl four traffic.0 (ap load_of c.in-Both.is) c.take_load.ensures
+pub returns-clause-stands : goal.returns-clause-stands
+returns-clause-stands c = λ settings history h.
+    let own = c.args.self.now in
+    let here : c.from.result ≡ timeslot_of own.settings.at own.turn = c.from.ensures ∙ c.clock-timeslot.ensures.timeslot in
+    let low : 1 ≤ c.from.result = rw c.from.ensures c.clock-timeslot.ensures.timeslots.0 in
+    let high : c.from.result ≤ 4 = rw c.from.ensures c.clock-timeslot.ensures.timeslots.1 in
+    let four : length own.lanes ≡ 4 = omega arith in
+    sent_turned settings history own c.from.result h here low high four c.args.blocks.now c.send_turn.new.lane _ refl refl refl
+    (c.send_turn.ensures.stands history h.turn (sent_now settings history own c.from.result h here low high four c.index-self-from.result))

@@ -18,9 +18,9 @@ pub slot_of_subs : (dir : Dir) (access : List Bool) (first second : Option (List
 slot_of_subs Dl access first second = refl
 slot_of_subs Ul access first second = refl
 
-module _ (settings s : Settings) (history : List SlotBlocks) (blocks : SlotBlocks) (turn : ℕ) (key access : List Bool) (same : s ≡ settings) (turns : turn ≡ length history)
-    (keyed : key ≡ key_of s.colour) (accessed : access ≡ access_of s.rows.0 key blocks.aach) where
-  pub slot_is : (burst : SlotBurst) → burst ≡ burst_of key (mode_of s turn) (blocks_sent settings (timeslot_of settings.at (length history)) history) blocks.body
-      → slot_of s.dir access burst ≡ slot_written settings history blocks
+module _ (settings : Settings) (history : List SlotBlocks) (blocks : SlotBlocks) (turn : ℕ) (key access : List Bool) (turns : turn ≡ length history)
+    (keyed : key ≡ key_of settings.colour) (accessed : access ≡ access_of settings.rows.0 key blocks.aach) where
+  pub slot_is : (burst : SlotBurst) → burst ≡ burst_of key (mode_of settings turn) (blocks_sent settings (timeslot_of settings.at turn) history) blocks.body
+      → slot_of settings.dir access burst ≡ slot_written settings history blocks
   unfolding slot_written
-  slot_is burst e = rw (e, accessed, keyed, same, turns) refl
+  slot_is burst e = rw (e, accessed, keyed, turns) refl

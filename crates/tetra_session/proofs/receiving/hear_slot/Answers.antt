@@ -7,25 +7,26 @@ use Rattle.tetra_session.specs.Heard.{letter_heard, second_stolen, field_heard}
 use Rattle.tetra_session.specs.Spots.{load_place, places_before_load, FitsSpot}
 use Rattle.tetra_session.specs.lemmas.Places.{before_fits, load_fits}
 use Rattle.tetra_session.specs.lemmas.Spread.{before_same}
-use Rattle.tetra_session.proofs.GatherLanes.{stands_again}
 use Rattle.tetra_session.proofs.Loads.{half_there}
 use Rattle.tetra_session.proofs.WrittenOver.{IsFrontWritten, front_items, all_items}
-use Rattle.tetra_session.proofs.receiver.Receiver.hear_slot.Goals as goal
+use Rattle.tetra_session.proofs.receiving.hear_slot.Goals as goal
 
 pub hear_fields-requires-clause-fit : goal.hear_fields-requires-clause-fit
-hear_fields-requires-clause-fit c =
-    let own = c.args.self.now in
-    let places : c.deref.result.now ≡ places_before_load own.settings.dir (letter_heard own.settings own.turn c.args.soft.now) =
-    c.deref.ensures.0 ∙ c.places_before_load-places.ensures ∙ ap (places_before_load own.settings.dir) c.requires.letter in
-    All-same (FitsSpot own.settings.dir) c.deref.result.now (places_before_load own.settings.dir (letter_heard own.settings own.turn c.args.soft.now)) places
-    (before_fits own.settings own.turn c.args.soft.now own.valid)
+hear_fields-requires-clause-fit g c =
+    let settings = c.args.settings.now in
+    let turn = c.args.turn in
+    let places : c.deref.result.now ≡ places_before_load settings.dir (letter_heard settings turn c.args.soft.now) =
+    c.deref.ensures.0 ∙ c.places_before_load-places.ensures ∙ ap (places_before_load settings.dir) c.requires.letter in
+    All-same (FitsSpot settings.dir) c.deref.result.now (places_before_load settings.dir (letter_heard settings turn c.args.soft.now)) places
+    (before_fits settings turn c.args.soft.now c.requires.valid)
 
 pub load_by_front-load-requires : goal.load_by_front-load-requires
-load_by_front-load-requires c =
-    let own = c.args.self.now in
+load_by_front-load-requires g c =
+    let settings = c.args.settings.now in
+    let key = c.args.keys.now.colour in
     let soft = c.args.soft.now in
     let places = c.places_before_load-places.result.items in
-    let bare = field_heard own.settings.dir own.keys.colour None soft in
+    let bare = field_heard settings.dir key None soft in
     let kept = c.keep_fields.new.fields in
     let written : IsFrontWritten bare kept places c.hear_fields.new.fields = record {
       first_is = c.hear_fields.ensures ∙ rw (c.deref.ensures.0, c.deref_mut.ensures.value) refl;
@@ -33,16 +34,18 @@ load_by_front-load-requires c =
     } in
     let front : take c.len-2.result c.deref-2.result.now ≡ map bare places =
     front_items bare kept places c.hear_fields.new.fields written c.len-2.result c.deref-2.result.now c.len-2.ensures.value c.deref-2.ensures.0 in
-    let right : take c.len-2.result c.deref-2.result.now ≡ map bare (places_before_load own.settings.dir c.args.letter) =
+    let right : take c.len-2.result c.deref-2.result.now ≡ map bare (places_before_load settings.dir c.args.letter) =
     front ∙ ap (map bare) c.places_before_load-places.ensures in
-    half_there own.settings.dir own.keys.colour soft c.args.letter (take c.len-2.result c.deref-2.result.now) right
+    half_there settings.dir key soft c.args.letter (take c.len-2.result c.deref-2.result.now) right
 
 pub hear_load-requires-clause-place : goal.hear_load-requires-clause-place
-hear_load-requires-clause-place c =
-    let own = c.args.self.now in
+hear_load-requires-clause-place g c =
+    let settings = c.args.settings.now in
+    let key = c.args.keys.now.colour in
+    let turn = c.args.turn in
     let soft = c.args.soft.now in
     let places = c.places_before_load-places.result.items in
-    let bare = field_heard own.settings.dir own.keys.colour None soft in
+    let bare = field_heard settings.dir key None soft in
     let kept = c.keep_fields.new.fields in
     let written : IsFrontWritten bare kept places c.hear_fields.new.fields = record {
       first_is = c.hear_fields.ensures ∙ rw (c.deref.ensures.0, c.deref_mut.ensures.value) refl;
@@ -50,20 +53,22 @@ hear_load-requires-clause-place c =
     } in
     let front : take c.len-2.result c.deref-2.result.now ≡ map bare places =
     front_items bare kept places c.hear_fields.new.fields written c.len-2.result c.deref-2.result.now c.len-2.ensures.value c.deref-2.ensures.0 in
-    let right : take c.len-2.result c.deref-2.result.now ≡ map bare (places_before_load own.settings.dir c.args.letter) =
+    let right : take c.len-2.result c.deref-2.result.now ≡ map bare (places_before_load settings.dir c.args.letter) =
     front ∙ ap (map bare) c.places_before_load-places.ensures in
-    let stolen = second_stolen own.settings.dir own.keys.colour soft in
+    let stolen = second_stolen settings.dir key soft in
     let load = c.load_by_front-load.result in
-    let load_is : load ≡ load_place c.args.letter (mode_of own.settings own.turn) stolen =
-    c.load_by_front-load.ensures own.settings.dir own.keys.colour soft right ∙ ap (λ m. load_place c.args.letter m stolen) c.mode_at.ensures.mode in
-    load_fits own.settings own.turn soft own.valid stolen load (load_is ∙ ap (λ l. load_place l (mode_of own.settings own.turn) stolen) c.requires.letter)
+    let load_is : load ≡ load_place c.args.letter (mode_of settings turn) stolen =
+    c.load_by_front-load.ensures settings.dir key soft right ∙ ap (λ m. load_place c.args.letter m stolen) c.mode_at.ensures.mode in
+    load_fits settings turn soft c.requires.valid stolen load (load_is ∙ ap (λ l. load_place l (mode_of settings turn) stolen) c.requires.letter)
 
 pub returns-clause-fields : goal.returns-clause-fields
-returns-clause-fields c =
-    let own = c.args.self.now in
+returns-clause-fields g c =
+    let settings = c.args.settings.now in
+    let key = c.args.keys.now.colour in
+    let turn = c.args.turn in
     let soft = c.args.soft.now in
     let places = c.places_before_load-places.result.items in
-    let bare = field_heard own.settings.dir own.keys.colour None soft in
+    let bare = field_heard settings.dir key None soft in
     let kept = c.keep_fields.new.fields in
     let written : IsFrontWritten bare kept places c.hear_fields.new.fields = record {
       first_is = c.hear_fields.ensures ∙ rw (c.deref.ensures.0, c.deref_mut.ensures.value) refl;
@@ -71,25 +76,20 @@ returns-clause-fields c =
     } in
     let front : take c.len-2.result c.deref-2.result.now ≡ map bare places =
     front_items bare kept places c.hear_fields.new.fields written c.len-2.result c.deref-2.result.now c.len-2.ensures.value c.deref-2.ensures.0 in
-    let right : take c.len-2.result c.deref-2.result.now ≡ map bare (places_before_load own.settings.dir c.args.letter) =
+    let right : take c.len-2.result c.deref-2.result.now ≡ map bare (places_before_load settings.dir c.args.letter) =
     front ∙ ap (map bare) c.places_before_load-places.ensures in
-    let stolen = second_stolen own.settings.dir own.keys.colour soft in
+    let stolen = second_stolen settings.dir key soft in
     let load = c.load_by_front-load.result in
-    let load_is : load ≡ load_place c.args.letter (mode_of own.settings own.turn) stolen =
-    c.load_by_front-load.ensures own.settings.dir own.keys.colour soft right ∙ ap (λ m. load_place c.args.letter m stolen) c.mode_at.ensures.mode in
-    let heard = field_heard own.settings.dir own.keys.colour c.gather.new.self.block soft in
+    let load_is : load ≡ load_place c.args.letter (mode_of settings turn) stolen =
+    c.load_by_front-load.ensures settings.dir key soft right ∙ ap (λ m. load_place c.args.letter m stolen) c.mode_at.ensures.mode in
+    let heard = field_heard settings.dir key c.take_slot.new.work.block soft in
     let same : map bare places ≡ map heard places =
-    rw c.places_before_load-places.ensures (before_same own.settings.dir own.keys.colour soft None c.gather.new.self.block own.settings.dir c.args.letter) in
+    rw c.places_before_load-places.ensures (before_same settings.dir key soft None c.take_slot.new.work.block settings.dir c.args.letter) in
     let count : c.from.result ≡ from_bool (is_some load) =
-    c.from.ensures ∙ ap from_bool (c.has_load.ensures (mode_of own.settings own.turn) stolen ∙ ap is_some (sym load_is)) in
+    c.from.ensures ∙ ap from_bool (c.has_load.ensures (mode_of settings turn) stolen ∙ ap is_some (sym load_is)) in
     let size : length kept.items ≡ length places + from_bool (is_some load) = omega (arith, c.keep_fields.ensures, c.len.ensures.value, count) in
     let lent = c.deref_mut-2.result.now in
     let step : MatchOption load (c.hear_load.new.fields ≡ lent) (λ place. c.hear_load.new.fields ≡ set lent (length lent - 1) (heard place)) =
-    rw (c.gather.ensures.keys) at c.hear_load.ensures in
+    c.hear_load.ensures in
     all_items bare kept places c.hear_fields.new.fields written heard load lent c.hear_load.new.fields same size c.deref_mut-2.ensures.value step
     ∙ ap (map heard) (rw (load_is, c.places_before_load-places.ensures) refl)
-
-pub returns-clause-stands : goal.returns-clause-stands
-returns-clause-stands c = λ settings history h.
-    stands_again settings _ c.gather.new.self _ (c.gather.ensures.stands settings history
-    (stands_again settings history c.args.self.now _ h refl refl refl)) refl refl refl

@@ -8,3 +8,4 @@ mod Putting
 mod WordRings
 mod Small
 mod Turns
+mod NeverKeptWords

@@ -177,7 +177,7 @@ struct tetra_blocks {
 /* A row of a certificate: the potentials of states 0 to 15. */
 struct tetra_row { uint32_t states[16]; };
 
-/* What is read of a field. Bytes of `message` behind `bits` and rows of `potentials` behind `rows` are left as they were. */
+/* What is read of a field. Bytes of `message` behind `bits` and rows of `potentials` behind `rows` say nothing. */
 struct tetra_field {
     uint32_t metric;                          /* that of the message; of speech that of its coded part */
     uint8_t name;                             /* enum tetra_field_name */
@@ -193,7 +193,7 @@ struct tetra_field {
 struct tetra_reading {
     uint8_t letter;               /* 'F', 'H', 'S', 'T', 'P' or 'C' */
     uint8_t count;                /* fields that were read, 1 to 4 */
-    struct tetra_field fields[4]; /* fields behind `count` are left as they were */
+    struct tetra_field fields[4]; /* fields behind `count` say nothing */
 };
 
 /* What the rules say of a certificate: step and state are where the first one does not hold, 0 where all hold. */
@@ -265,8 +265,8 @@ int32_t tetra_receiver_slot(struct tetra_receiver *receiver, const int8_t slot[T
                             struct tetra_reading *reading) TETRA_NOT_NULL;
 
 /* Reads the slot whose turn it is, and writes its reading record, to the byte that of the program (docs/FORMATS.md):
- * `written` bytes of `bytes`, with certificates where `certificates` is not 0. Bytes behind them are left as they were. Then
- * it is the turn of the next slot. It answers as tetra_receiver_slot does. */
+ * `written` bytes of `bytes`, with certificates where `certificates` is not 0. Bytes behind them say nothing. Then it is the
+ * turn of the next slot. It answers as tetra_receiver_slot does. */
 int32_t tetra_receiver_record(struct tetra_receiver *receiver, const int8_t slot[TETRA_SLOT], uint8_t certificates,
                               uint8_t bytes[TETRA_RECORD], uint32_t *written) TETRA_NOT_NULL;
 

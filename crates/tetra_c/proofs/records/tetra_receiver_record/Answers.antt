@@ -1,5 +1,16 @@
-use Rattle.std.proofs.Common.{refl}
+use Rattle.std.proofs.Common.{refl, ap, ◌∙◌}
+use Rattle.tetra_records.specs.Readings.{reading_spelling}
+use Rattle.tetra_c.specs.Records.{form_of}
+use Rattle.tetra_c.specs.Values.{soft_values}
+use Rattle.tetra_c.proofs.Fronts.{front_read}
 use Rattle.tetra_c.proofs.records.tetra_receiver_record.Goals as goal
+
+pub returns-in-Ok-clause-bytes : goal.returns-in-Ok-clause-bytes
+returns-in-Ok-clause-bytes c = λ done settings history h.
+    c.put_record.ensures
+    ∙ ap (reading_spelling (form_of c.args.certificates))
+    (front_read c.in-Ok.settings settings history (soft_values c.args.slot.now) c.hear_next.new.front (c.in-Ok.ensures.value ∙ h.same)
+    (c.in-Ok.ensures.front refl settings history h))
 
 pub returns-in-Ok-clause-stands : goal.returns-in-Ok-clause-stands
 returns-in-Ok-clause-stands c = λ done. c.in-Ok.ensures.stands refl

@@ -2,7 +2,7 @@
 use Rattle.std.proofs.Common.{ℕ, ◌+◌, ◌-◌, ◌<◌, ◌≤◌, ◌≡◌, Bool, true, false, List, [], ◌∷◌, ◌++◌, length, map, take, get_or, arith, refl, ap, sym, ◌∙◌, inl, inr}
 use Rattle.std.specs.Prelude.{IsTrue, All, slice_index}
 use Rattle.std.proofs.lemmas.Bool.{cases_lt}
-use Rattle.std.proofs.lemmas.List.{length-map, length-take-le, take_all, get_or-map, drop_all}
+use Rattle.std.proofs.lemmas.List.{length-map, get_or-map, drop_all}
 use Rattle.tetra_bits.specs.Numbered.{is_numbered, length-numbered, get_or-numbered}
 use Rattle.tetra_bits.specs.Sums.{bit_number}
 use Rattle.tetra_diag.specs.Ring.{Puts}
@@ -12,7 +12,7 @@ use Rattle.tetra_c.specs.KeptBlocks.{kept_bits, kept_blocks, KeepsLast, KeptStan
 use Rattle.tetra_c.specs.Rings.{is_ring}
 use Rattle.tetra_c.specs.declared.kept_blocks.TetraKeptBlock.{TetraKeptBlock}
 use Rattle.tetra_c.specs.declared.kept_blocks.TetraKeptBlocks.{TetraKeptBlocks}
-use Rattle.tetra_c.proofs.RingTests.{ring_holds}
+use Rattle.tetra_c.proofs.RingTests.{ring_holds, taken_few}
 
 pub block_size : (block : TetraKeptBlock) → length (kept_bits block) ≡ 432
 block_size block = length-numbered (λ k. is_one (slice_index block.bits (k - 1))) 432
@@ -40,12 +40,6 @@ block_written row block size written =
 -- each block has 432 bits
 pub blocks_whole : (blocks : List TetraKeptBlock) → All (λ b. length (kept_bits b) ≡ 432) blocks
 blocks_whole blocks = λ k block low. block_size _
-
-taken_few : {X : Type 0} (m : ℕ) (xs : List X) → length (take m xs) ≤ m
-taken_few m xs = elim (cases_lt (length xs) m) [
-  | inl few ↦ omega (arith, ap length (take_all m xs (omega arith)))
-  | inr all ↦ omega (arith, length-take-le m xs all)
-]
 
 -- the test finds a ring where the last n blocks are kept
 pub ring_tested : (n : ℕ) (blocks : List (List Bool)) (kept : TetraKeptBlocks) → KeepsLast n blocks kept → IsTrue (is_ring n kept.count kept.oldest)

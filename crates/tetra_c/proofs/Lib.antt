@@ -9,3 +9,4 @@ mod Fronts
 mod WordRings
 mod Small
 mod Turns
+mod NeverKeptWords

@@ -20,7 +20,8 @@ use Rattle.tetra_c.specs.declared.fault.Fault.{Fault}
 use Rattle.tetra_c.specs.declared.fault.Fault.TheVariants.{Length, Bit, Colour, Mode, Place, Turn, Kept, Misfit, Field}
 use Rattle.tetra_c.proofs.BlockRings.{stands_tested}
 
-abbrev Other : Option Fault → Type 0
+-- another fault, or none
+abbrev pub Other : Option Fault → Type 0
 Other None = Unit {0}
 Other (Some Length) = Unit {0}
 Other (Some Bit) = Unit {0}
@@ -32,15 +33,15 @@ Other (Some Kept) = ⊥
 Other (Some Misfit) = Unit {0}
 Other (Some Field) = Unit {0}
 
-either : (b : Bool) (x y : Option Fault) → Other x → Other y → Other (if b then x else y)
+pub either : (b : Bool) (x y : Option Fault) → Other x → Other y → Other (if b then x else y)
 either true x y p q = p
 either false x y p q = q
 
-first : (x y : Option Fault) → Other x → Other y → Other (or_else x y)
+pub first : (x y : Option Fault) → Other x → Other y → Other (or_else x y)
 first None y p q = q
 first (Some fault) y p q = p
 
-other_number : (fault : Fault) → Other (Some fault) → number_of fault ≢ negsuc 6
+pub other_number : (fault : Fault) → Other (Some fault) → number_of fault ≢ negsuc 6
 other_number Length p e = cc
 other_number Bit p e = cc
 other_number Colour p e = cc
@@ -56,7 +57,7 @@ fields_other blocks =
     either (not (are_short blocks)) (Some Length) (if not (are_read blocks) then Some Bit else None) tt
     (either (not (are_read blocks)) (Some Bit) None tt tt)
 
-settings_other : (settings : TetraSettings) → Other (settings_fault settings)
+pub settings_other : (settings : TetraSettings) → Other (settings_fault settings)
 unfolding settings_fault
 settings_other settings =
     let place = if nat_lt 4319 settings.at then Some Place else None in

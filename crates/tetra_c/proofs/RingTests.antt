@@ -1,7 +1,8 @@
 -- The test whether what is kept of a timeslot is a ring.
-use Rattle.std.proofs.Common.{ℕ, ◌<◌, ◌≤◌, ◌≡◌, inl, inr, arith, nat_eq}
+use Rattle.std.proofs.Common.{ℕ, ◌<◌, ◌≤◌, ◌≡◌, inl, inr, arith, nat_eq, List, length, take, ap}
 use Rattle.std.specs.Prelude.{IsTrue}
 use Rattle.std.proofs.lemmas.Bool.{or_cases, and_parts, ltb-true, eqb-true, or_left, or_right, and_from, lt-ltb, eq-eqb, cases_lt}
+use Rattle.std.proofs.lemmas.List.{take_all, length-take-le}
 use Rattle.tetra_c.specs.Rings.{is_ring}
 
 -- what it says
@@ -38,3 +39,10 @@ ring_holds n count oldest ring =
       | inl lt ↦ or_right _ _ (and_from _ _ (lt-ltb count n lt) (eq-eqb oldest 0 (ring.straight lt)))
       | inr ge ↦ or_left _ _ (eq-eqb count n (omega (arith, ge, ring.few)))
     ]))
+
+-- of a list no more than the first m are taken
+pub taken_few : {X : Type 0} (m : ℕ) (xs : List X) → length (take m xs) ≤ m
+taken_few m xs = elim (cases_lt (length xs) m) [
+  | inl few ↦ omega (arith, ap length (take_all m xs (omega arith)))
+  | inr all ↦ omega (arith, length-take-le m xs all)
+]

@@ -1,17 +1,18 @@
 -- The slot words that are kept of a timeslot, one word on.
-use Rattle.std.proofs.Common.{ℕ, ◌+◌, ◌-◌, ◌<◌, ◌≤◌, ◌≡◌, ℤ, pos, List, [], ◌∷◌, ◌++◌, length, map, take, arith, ap, sym, ◌∙◌}
+use Rattle.std.proofs.Common.{ℕ, ◌+◌, ◌-◌, ◌<◌, ◌≤◌, ◌≡◌, ℤ, pos, List, [], ◌∷◌, ◌++◌, length, map, take, arith, refl, ap, sym, ◌∙◌, inl, inr}
 use Rattle.std.specs.Prelude.{IsTrue, All}
-use Rattle.std.proofs.lemmas.List.{length-map, length-take-le, drop_all}
+use Rattle.std.proofs.lemmas.Bool.{cases_lt}
+use Rattle.std.proofs.lemmas.List.{length-map, drop_all}
 use Rattle.tetra_bits.specs.Numbered.{is_numbered, length-numbered, get_or-numbered}
 use Rattle.tetra_bits.specs.Soft.{value_at}
-use Rattle.tetra_diag.specs.Ring.{IsRing, Puts}
+use Rattle.tetra_diag.specs.Ring.{Puts}
 use Rattle.tetra_diag.specs.lemmas.Rings.{turned_put, ring_put}
-use Rattle.tetra_c.specs.KeptWords.{word_values, kept_words, KeepsLast}
+use Rattle.tetra_c.specs.KeptWords.{word_values, kept_words, KeepsLast, KeptStands}
 use Rattle.tetra_c.specs.Rings.{is_ring}
 use Rattle.tetra_c.specs.Values.{clamped}
 use Rattle.tetra_c.specs.declared.kept_words.TetraKeptWord.{TetraKeptWord}
 use Rattle.tetra_c.specs.declared.kept_words.TetraKeptWords.{TetraKeptWords}
-use Rattle.tetra_c.proofs.RingTests.{ring_says, ring_holds}
+use Rattle.tetra_c.proofs.RingTests.{ring_holds, taken_few}
 
 pub word_size : (word : TetraKeptWord) → length (word_values word) ≡ 432
 word_size word = length-numbered (λ k. clamped (value_at word.values (k - 1))) 432
@@ -35,32 +36,30 @@ word_written row word size each =
 pub words_whole : (words : List TetraKeptWord) → All (λ w. length (word_values w) ≡ 432) words
 words_whole words = λ k word low. word_size _
 
-module _ (n : ℕ) (some : 1 ≤ n) (most : n ≤ 8) where
-  pub length-kept : (kept : TetraKeptWords) → length kept.words ≡ 8 → kept.count ≤ n → length (kept_words kept) ≡ kept.count
-  length-kept kept size few = length-map (take kept.count kept.words) word_values ∙ length-take-le kept.count kept.words (omega (arith, size, few, most))
+-- the test finds a ring where the last n words are kept
+pub ring_tested : (n : ℕ) (words : List (List ℤ)) (kept : TetraKeptWords) → KeepsLast n words kept → IsTrue (is_ring n kept.count kept.oldest)
+ring_tested n words kept keeps =
+    let l : length (kept_words kept) ≤ kept.count =
+    omega (arith, length-map (take kept.count kept.words) word_values, taken_few kept.count kept.words) in
+    ring_holds n kept.count kept.oldest
+    (record { low = keeps.ring.low; few = keeps.few; straight = λ h. keeps.ring.straight (omega (arith, l, h)) })
 
-  -- what is kept is a ring where the test says so
-  pub kept_ring : (kept : TetraKeptWords) → length kept.words ≡ 8 → IsTrue (is_ring n kept.count kept.oldest) → IsRing n kept.oldest (kept_words kept)
-  kept_ring kept size test =
-      let says = ring_says n kept.count kept.oldest some test in
-      let l = length-kept kept size says.few in
-      record { low = says.low; few = omega (arith, l, says.few); straight = λ h. says.straight (omega (arith, l, h)) }
+-- and where they stand for the words of a timeslot
+pub stands_tested : (n : ℕ) (words : List (List ℤ)) (kept : TetraKeptWords) → KeptStands n words kept → IsTrue (is_ring n kept.count kept.oldest)
+stands_tested n words kept stands = elim (cases_lt 0 n) [
+  | inl some ↦ ring_tested n words kept (stands (omega arith))
+  | inr none ↦ let z : n ≡ 0 = omega arith in rw z refl
+]
 
-  pub ring_tested : (words : List (List ℤ)) (kept : TetraKeptWords) → length kept.words ≡ 8 → KeepsLast n words kept → IsTrue (is_ring n kept.count kept.oldest)
-  ring_tested words kept size keeps =
-      let l = length-kept kept size keeps.few in
-      ring_holds n kept.count kept.oldest
-      (record { low = keeps.ring.low; few = keeps.few; straight = λ h. keeps.ring.straight (omega (arith, l, h)) })
-
-  -- the last n words, one word on
-  pub keeps_put : (words : List (List ℤ)) (old new : TetraKeptWords) (word : List ℤ) → new.count ≤ n → KeepsLast n words old
-      → Puts n old.oldest (kept_words old) word new.oldest (kept_words new) → KeepsLast n (words ++ word ∷ []) new
-  keeps_put words old new word few keeps puts =
-      record {
-        few = few;
-        ring = ring_put n old.oldest new.oldest (kept_words old) (kept_words new) word keeps.ring puts;
-        last = turned_put n old.oldest new.oldest words (kept_words old) (kept_words new) word keeps.ring puts keeps.last;
-      }
+-- the last n words, one word on
+pub keeps_put : (n : ℕ) (words : List (List ℤ)) (old new : TetraKeptWords) (word : List ℤ) → new.count ≤ n → KeepsLast n words old
+    → Puts n old.oldest (kept_words old) word new.oldest (kept_words new) → KeepsLast n (words ++ word ∷ []) new
+keeps_put n words old new word few keeps puts =
+    record {
+      few = few;
+      ring = ring_put n old.oldest new.oldest (kept_words old) (kept_words new) word keeps.ring puts;
+      last = turned_put n old.oldest new.oldest words (kept_words old) (kept_words new) word keeps.ring puts keeps.last;
+    }
 
 -- no word yet
 pub keeps_none : (n : ℕ) (kept : TetraKeptWords) → 1 ≤ n → kept.count ≡ 0 → kept.oldest ≡ 0 → KeepsLast n [] kept

@@ -5,7 +5,7 @@ ghost use Rattle.tetra_settings.specs.Slots.{timeslot_of};
 ghost use Rattle.tetra_settings.specs.Validity.{IsValid};
 ghost use Rattle.tetra_session.specs.Fronts.{IsFront};
 ghost use Rattle.tetra_session.specs.Heard.{HeardStands, slot_front, slot_reading};
-ghost use Rattle.tetra_c.specs.Faults.{answer_of};
+ghost use Rattle.tetra_c.specs.Faults.{answer_of, number_of};
 ghost use Rattle.tetra_c.specs.KeptWords.{KeptStands};
 ghost use Rattle.tetra_c.specs.Readings.{ArePut};
 ghost use Rattle.tetra_c.specs.Receivers.{is_lane, are_lanes, AreClear, receiver_fault, ReceiverIs};
@@ -196,6 +196,9 @@ pub extern "C" fn tetra_receiver_slot(
         → ReceiverIs settings (history ++ soft_values slot.now ∷ []) receiver.new }
     ensures settings { receiver.new.settings ≡ receiver.old.settings }
     ensures turn { result ≡ pos 0 → receiver.new.turn ≡ receiver.old.turn + 1 }
+    // What is kept is refused only where it was changed by another hand.
+    ensures own { (settings : Settings) (history : List (List ℤ)) → ReceiverIs settings history receiver.old
+        → result ≢ number_of Fault.Kept }
     ensures reading_kept { result ≢ pos 0 → reading.new ≡ reading.old }
     ensures receiver_kept { result ≢ pos 0 → receiver.new ≡ receiver.old }
 {

@@ -8,7 +8,7 @@ ghost use Rattle.tetra_records.specs.Readings.{reading_spelling};
 ghost use Rattle.tetra_session.specs.Fronts.{IsFront};
 ghost use Rattle.tetra_session.specs.Heard.{slot_front, slot_reading};
 ghost use Rattle.tetra_session.specs.Readers.{read_front};
-ghost use Rattle.tetra_c.specs.Faults.{answer_of};
+ghost use Rattle.tetra_c.specs.Faults.{answer_of, number_of};
 ghost use Rattle.tetra_c.specs.Receivers.{receiver_fault, ReceiverIs};
 ghost use Rattle.tetra_c.specs.Records.{form_of, audit_for, claim_fault};
 ghost use Rattle.tetra_c.specs.Values.{soft_values};
@@ -82,6 +82,9 @@ pub extern "C" fn tetra_receiver_record(
         → ReceiverIs settings (history ++ soft_values slot.now ∷ []) receiver.new }
     ensures settings { receiver.new.settings ≡ receiver.old.settings }
     ensures turn { result ≡ pos 0 → receiver.new.turn ≡ receiver.old.turn + 1 }
+    // What is kept is refused only where it was changed by another hand.
+    ensures own { (settings : Settings) (history : List (List ℤ)) → ReceiverIs settings history receiver.old
+        → result ≢ number_of Fault.Kept }
     ensures bytes_kept { result ≢ pos 0 → bytes.new ≡ bytes.old }
     ensures written_kept { result ≢ pos 0 → written.new ≡ written.old }
     ensures receiver_kept { result ≢ pos 0 → receiver.new ≡ receiver.old }
@@ -203,6 +206,9 @@ pub extern "C" fn tetra_receiver_audit(
         → ReceiverIs settings (history ++ soft_values slot.now ∷ []) receiver.new }
     ensures settings { receiver.new.settings ≡ receiver.old.settings }
     ensures turn { result ≡ pos 0 → receiver.new.turn ≡ receiver.old.turn + 1 }
+    // What is kept is refused only where it was changed by another hand.
+    ensures own { (settings : Settings) (history : List (List ℤ)) → ReceiverIs settings history receiver.old
+        → result ≢ number_of Fault.Kept }
     ensures verdict_kept { result ≢ pos 0 → verdict.new ≡ verdict.old }
     ensures receiver_kept { result ≢ pos 0 → receiver.new ≡ receiver.old }
 {

@@ -5,5 +5,4 @@ pub mod Behind
 pub mod Beginnings
 pub mod Filled
 pub mod Given
-pub mod Lengths
 pub mod Rows

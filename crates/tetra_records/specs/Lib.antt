@@ -4,3 +4,4 @@ pub mod Records
 pub mod Buffers
 pub mod Readings
 pub mod Rooms
+pub mod lemmas

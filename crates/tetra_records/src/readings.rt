@@ -40,8 +40,11 @@ pub fn add_reading<const N: usize>(reading: &SlotReading, form: Form, out: &mut 
     }
 }
 
+/// Puts the part of a reading record that is a field's behind what stands in `out`: its mark, its metric, its bits packed,
+/// and in form `Audit` its certificate. A record is its letter and then its fields, so it can be made field by field, where
+/// there is no room for all of them. Metric and potentials are at most 65,535, and there is room for the field.
 #[tactic(auto, unfolding(crate::specs::Readings::field_bytes))]
-fn add_field<const N: usize>(field: &Field, form: Form, out: &mut ArrayVec<u8, N>)
+pub fn add_field<const N: usize>(field: &Field, form: Form, out: &mut ArrayVec<u8, N>)
     requires field { IsField field.now }
     requires small { IsSmall field.now }
     requires room { array_vec_len out.old + room_of field.now.name ≤ N }

@@ -1,16 +1,18 @@
 // The letter and the fields of a slot.
-ghost use Rattle.std.specs.Prelude.{◌≡◌, ◌≤◌, ◌++◌, ◌∷◌, ◌-◌, [], ℕ, Bool, List, ℤ, length, map, drop, false, None, slice_index_or, slice_set, All, IfSome, MatchOption, IsTrue};
+ghost use Rattle.std.specs.Prelude.{◌≡◌, ◌≤◌, ◌++◌, ◌∷◌, ◌-◌, [], ℕ, Bool, List, ℤ, length, map, drop, false, None, slice_index_or, slice_set, All, IfSome, MatchOption, IsTrue, nat_abs};
 ghost use Rattle.arrayvec.specs.ArrayVec.{array_vec_len};
 ghost use Rattle.tetra_bits.specs.Soft.{AllSoft};
+ghost use Rattle.tetra_bits.specs.declared.soft.TheConstants.{SOFT_MAX};
 ghost use Rattle.tetra_channels.specs.Channels.{half};
 ghost use Rattle.tetra_channels.specs.Fields.{coded_reading};
 ghost use Rattle.tetra_diag.specs.Diagonal.{gathered};
 ghost use Rattle.tetra_scramble.specs.Key.{zero_key_bits};
-ghost use Rattle.tetra_settings.specs.Readings.{sizes};
+ghost use Rattle.tetra_settings.specs.Readings.{IsField, sizes};
 ghost use Rattle.tetra_settings.specs.declared.slots.Letter.TheVariants as Letter;
 ghost use Rattle.tetra_session.specs.Time.{MayBeDepth};
 ghost use Rattle.tetra_session.specs.Heard.{allowed_in, letter_by, place_values, second_stolen, is_good, is_spread, field_heard, field_of_place};
-ghost use Rattle.tetra_session.specs.Readers.{reader, read_by, field_reading};
+ghost use Rattle.tetra_session.specs.Fronts.{IsFrontField, IsBounded};
+ghost use Rattle.tetra_session.specs.Readers.{reader, read_by, read_field, field_reading};
 ghost use Rattle.tetra_session.specs.Spots.{FitsSpot, load_place, places_before_load};
 
 use crate::front::FrontField;
@@ -220,6 +222,21 @@ fn read_block(name: FieldName, rows: &Rows, block: &Option<Soft>, reading: &mut 
             reading.potentials = None;
         }
     }
+}
+
+/// What is read of a field of a front, by its values, written over a field that is there, whose potentials serve again:
+/// the first-least message with its metric, its mark and its certificate; where it has no values, not yet. The rows are
+/// those of the access code. So the fields of `hear_turn` can be read one by one, where there is no room for all of them.
+#[tactic(auto, unfolding(crate::specs::Readers::read_field))]
+pub fn read_heard(rows: &Rows, heard: &FrontField, field: &mut Field)
+    requires { IsFrontField heard.now }
+    ensures value { field.new ≡ read_field rows.now.0 heard.now }
+    ensures formed { IsField field.new }
+    ensures small { IsBounded (nat_abs SOFT_MAX) field.new }
+{
+    block_is_soft(&heard.soft);
+    field.name = heard.name;
+    read_block(heard.name, rows, &heard.soft, &mut field.reading);
 }
 
 /// Whether the values of a field come over several slots: those of protected data.

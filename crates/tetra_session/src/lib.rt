@@ -15,7 +15,7 @@ mod spots;
 mod spreading;
 mod words;
 
-pub use fields::Work;
+pub use fields::{Work, read_heard};
 pub use front::{Front, FrontField};
 pub use gathering::Gathers;
 pub use keys::Keys;

@@ -1,7 +1,7 @@
 use Rattle.std.proofs.Common.{rules, ◌≡◌, ◌≤◌, length, arith, ap, ◌∙◌}
 use Rattle.tetra_bits.specs.Packed.{bytes_for}
 use Rattle.tetra_settings.specs.Readings.{message_bits, certificate_rows}
-use Rattle.tetra_records.proofs.Lengths.{length-packed, table_fits}
+use Rattle.tetra_records.specs.lemmas.Lengths.{length-packed, table_fits}
 use Rattle.tetra_records.proofs.readings.add_field.Goals as goal
 
 pub unwrap-requires : goal.unwrap-requires

@@ -4,7 +4,7 @@ use Rattle.std.proofs.lemmas.List.{take_all}
 use Rattle.std.proofs.lemmas.List.Elements.{All-get_or}
 use Rattle.tetra_settings.specs.Readings.{IsField}
 use Rattle.tetra_records.specs.Readings.{IsSmall, field_bytes, reading_spelling}
-use Rattle.tetra_records.proofs.Lengths.{rooms_by_names, row_fits, rooms_from, spelled_more}
+use Rattle.tetra_records.specs.lemmas.Lengths.{rooms_by_names, row_fits, rooms_from, spelled_more}
 use Rattle.tetra_records.proofs.readings.add_reading.Goals as goal
 
 pub loop-field-init : goal.loop-field-init

@@ -2,7 +2,7 @@ use Rattle.std.proofs.Common.{◌≡◌, ◌≤◌, ◌+◌, ◌++◌, ◌∷◌
 use Rattle.std.specs.List.{flat_map}
 use Rattle.arrayvec.specs.ArrayVec.{array_vec_len}
 use Rattle.tetra_records.specs.Readings.{field_bytes}
-use Rattle.tetra_records.proofs.Lengths.{rooms_left}
+use Rattle.tetra_records.specs.lemmas.Lengths.{rooms_left}
 use Rattle.tetra_records.proofs.readings.add_reading.Given as goal
 
 abbrev pub invariant-loop-field : goal.invariant-loop-field

@@ -1,4 +1,4 @@
-use Rattle.std.proofs.Common.{◌≡◌, ◌++◌, ◌∷◌, [], length, arith, sym, ap, ◌∙◌, subst}
+use Rattle.std.proofs.Common.{◌≡◌, ◌++◌, ◌∷◌, [], sym, ap, ◌∙◌, subst}
 use Rattle.tetra_diag.specs.Diagonal.{Fills, gathered}
 use Rattle.tetra_diag.specs.lemmas.Depths.{depth_width}
 use Rattle.tetra_diag.specs.lemmas.Kept.{gathered_last}
@@ -11,10 +11,9 @@ pub returns-clause-stands : goal.returns-clause-stands
 returns-clause-stands g c = λ words keeps.
     let n = g.row.N in
     let width = depth_width n c.requires.depth in
-    let size : length c.args.self.now.words ≡ 8 = omega arith in
-    let same : c.settle.new.self ≡ c.args.self.now = c.settle.ensures.kept (ring_tested n width.some width.most words c.args.self.now size keeps) in
+    let same : c.settle.new.self ≡ c.args.self.now = c.settle.ensures.kept (ring_tested n words c.args.self.now keeps) in
     let says = ring_says n c.keep.new.self.count c.keep.new.self.oldest width.some c.keep.ensures.ring in
-    keeps_put n width.some width.most words c.settle.new.self c.keep.new.self c.args.word.now says.few
+    keeps_put n words c.settle.new.self c.keep.new.self c.args.word.now says.few
     (subst (KeepsLast n words) (sym same) keeps) c.keep.ensures.puts
 
 pub returns-clause-block : goal.returns-clause-block

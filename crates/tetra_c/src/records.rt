@@ -8,6 +8,7 @@ ghost use Rattle.tetra_records.specs.Readings.{reading_spelling};
 ghost use Rattle.tetra_session.specs.Fronts.{IsFront};
 ghost use Rattle.tetra_session.specs.Heard.{slot_front, slot_reading};
 ghost use Rattle.tetra_session.specs.Readers.{read_front};
+ghost use Rattle.tetra_settings.specs.declared.types.Settings.{Settings};
 ghost use Rattle.tetra_c.specs.Faults.{answer_of, number_of};
 ghost use Rattle.tetra_c.specs.Receivers.{receiver_fault, ReceiverIs};
 ghost use Rattle.tetra_c.specs.Records.{form_of, audit_for, claim_fault};

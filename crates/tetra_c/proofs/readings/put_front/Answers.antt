@@ -37,7 +37,7 @@ loop-i-preserved c =
 pub returns : goal.returns
 unfolding read_front
 returns c =
-    let long = length-map (read_field c.args.rows.now.0) c.args.front.now.fields.items in
+    let long = length-map c.args.front.now.fields.items (read_field c.args.rows.now.0) in
     record {
       letter = c.loop-i.invariant.letter;
       count = c.loop-i.invariant.count ∙ sym long;

@@ -33,8 +33,8 @@ add_field-requires g c =
     let is : c.heard-item.result ≡ get_or items i c.heard-item.result = c.heard-item.is ∙ ap (λ xs. get_or xs i c.heard-item.result) c.as_slice-heard-items.ensures.value in
     let within : i < length items = omega (arith, ap length c.as_slice-heard-items.ensures.value) in
     let here : field ≡ get_or fields i field = read_at rows items i c.heard-item.result field field is within c.read_heard.ensures.value in
-    let room = rooms_from fields i field here (omega (arith, within, length-map (read_field rows) items)) in
-    (c.read_heard.ensures.formed, (small_field field c.read_heard.ensures.small, omega (arith, room)))
+    let room = rooms_from fields i field here (omega (arith, within, length-map items (read_field rows))) in
+    (search rules, (c.read_heard.ensures.formed, (small_field field c.read_heard.ensures.small, omega (arith, room))))
 
 pub loop-heard-preserved : goal.loop-heard-preserved
 loop-heard-preserved g c =
@@ -46,7 +46,7 @@ loop-heard-preserved g c =
     let is : c.heard-item.result ≡ get_or items i c.heard-item.result = c.heard-item.is ∙ ap (λ xs. get_or xs i c.heard-item.result) c.as_slice-heard-items.ensures.value in
     let within : i < length items = omega (arith, ap length c.as_slice-heard-items.ensures.value) in
     let here : field ≡ get_or fields i field = read_at rows items i c.heard-item.result field field is within c.read_heard.ensures.value in
-    let below : i < length fields = omega (arith, within, length-map (read_field rows) items) in
+    let below : i < length fields = omega (arith, within, length-map items (read_field rows)) in
     let room = rooms_from fields i field here below in
     record {
       bytes = spelled_more (field_bytes c.args.form) (c.args.out.now.items ++ c.args.front.now.letter ∷ []) c.loop-heard.out.items c.add_field.new.out.items fields i field here below
@@ -59,8 +59,9 @@ unfolding reading_spelling read_front
 returns g c =
     let items = c.args.front.now.fields.items in
     let fields = map (read_field c.args.rows.now.0) items in
-    let long = length-map (read_field c.args.rows.now.0) items in
+    let long = length-map items (read_field c.args.rows.now.0) in
     let whole : length fields ≤ c.loop-heard.heard-index = omega (arith, long, ap length c.as_slice-heard-items.ensures.value) in
-    c.loop-heard.invariant.bytes
-    ∙ ap (λ xs. (c.args.out.now.items ++ c.args.front.now.letter ∷ []) ++ flat_map (field_bytes c.args.form) xs) (take_all c.loop-heard.heard-index fields whole)
-    ∙ append_assoc c.args.out.now.items (c.args.front.now.letter ∷ []) (flat_map (field_bytes c.args.form) fields)
+    let start = c.args.out.now.items ++ c.args.front.now.letter ∷ [] in
+    let spelled : c.loop-heard.out.items ≡ start ++ flat_map (field_bytes c.args.form) fields =
+    c.loop-heard.invariant.bytes ∙ ap (λ xs. start ++ flat_map (field_bytes c.args.form) xs) (take_all c.loop-heard.heard-index fields whole) in
+    spelled ∙ append_assoc c.args.out.now.items (c.args.front.now.letter ∷ []) (flat_map (field_bytes c.args.form) fields)

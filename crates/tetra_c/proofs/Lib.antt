@@ -5,6 +5,7 @@ mod BlockRings
 mod SenderTurns
 mod NeverKept
 mod Putting
+mod Fronts
 mod WordRings
 mod Small
 mod Turns

@@ -1,5 +1,5 @@
 -- The numbers of a reading fit two bytes.
-use Rattle.std.proofs.Common.{ℕ, ◌*◌, ◌≤◌, List, All, arith, Option, None, Some}
+use Rattle.std.proofs.Common.{ℕ, ◌*◌, ◌≤◌, List, arith, Option, None, Some}
 use Rattle.std.specs.Prelude.{nat_abs, IfSome}
 use Rattle.tetra_bits.specs.Readings.{entry}
 use Rattle.tetra_bits.specs.declared.soft.TheConstants.{SOFT_MAX}
@@ -14,8 +14,5 @@ small_potentials : (potentials : Option (List (List ℕ))) → IfSome potentials
 small_potentials None h = tt
 small_potentials (Some rows) h = λ t s. small_number (entry rows t s) (h t s)
 
-small_field : (field : Field) → IsBounded (nat_abs SOFT_MAX) field → IsSmall field
+pub small_field : (field : Field) → IsBounded (nat_abs SOFT_MAX) field → IsSmall field
 small_field field bounded = record { metric = small_number field.reading.metric bounded.metric; potentials = small_potentials field.reading.potentials bounded.potentials }
-
-pub small_fields : (fields : List Field) → All (IsBounded (nat_abs SOFT_MAX)) fields → All IsSmall fields
-small_fields fields each k d below = small_field _ (each k d below)

@@ -1,11 +1,15 @@
 // What is read of a slot, as C has it.
 ghost use Rattle.std.specs.Prelude.{◌≡◌, take, length};
-ghost use Rattle.tetra_settings.specs.Readings.{IsWellFormed, IsField};
+ghost use Rattle.tetra_session.specs.Fronts.{IsFront};
+ghost use Rattle.tetra_session.specs.Readers.{read_front};
+ghost use Rattle.tetra_settings.specs.Readings.{IsField};
 ghost use Rattle.tetra_c.specs.Bytes.{bytes_of};
 ghost use Rattle.tetra_c.specs.Readings.{mark_number, name_number, IsPut, ArePut};
 
 use tetra_bits::{Bits, Mark, Potentials};
-use tetra_settings::{Field, FieldName, SlotReading};
+use tetra_rm::Rows;
+use tetra_session::{Front, read_heard};
+use tetra_settings::{Field, FieldName};
 
 /// What is read of a field: the number of its name (0 AACH, 1 BSCH, 2 a half slot, 3 SCH/HU, 4 SCH/F, 5 TCH/7.2, 6 TCH/4.8,
 /// 7 TCH/2.4, 8 speech of a whole slot, 9 speech of half a slot) and of its mark (0 good, 1 bad, 2 unchecked, 3 not yet),
@@ -99,14 +103,17 @@ fn put_field(field: &Field, out: &mut TetraField)
     }
 }
 
-/// Writes what is read of a slot.
-pub fn put_reading(reading: &SlotReading, out: &mut TetraReading)
-    requires { IsWellFormed reading.now }
-    ensures { ArePut reading.now out.new }
+/// Writes what is read of a slot by its front. One field is read at a time.
+#[inline(never)]
+pub fn put_front(rows: &Rows, front: &Front, out: &mut TetraReading)
+    requires { IsFront front.now }
+    ensures { ArePut (read_front rows.now.0 front.now) out.new }
 {
-    out.letter = reading.letter;
-    out.count = reading.fields.len() as u8;
-    for i in 0..reading.fields.len() {
-        put_field(&reading.fields[i], &mut out.fields[i]);
+    out.letter = front.letter;
+    out.count = front.fields.len() as u8;
+    let mut field = Field::default();
+    for i in 0..front.fields.len() {
+        read_heard(rows, &front.fields[i], &mut field);
+        put_field(&field, &mut out.fields[i]);
     }
 }

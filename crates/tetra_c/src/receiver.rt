@@ -1,13 +1,12 @@
 // A receiver as C has it.
-ghost use Rattle.std.specs.Prelude.{◌≡◌, ◌≢◌, ◌<◌, ◌≤◌, ◌+◌, ◌-◌, ◌++◌, ◌∷◌, [], pos, length, List, ℤ, IfOk, IsOk, IsErr, All, nat_abs};
+ghost use Rattle.std.specs.Prelude.{◌≡◌, ◌≢◌, ◌<◌, ◌≤◌, ◌+◌, ◌-◌, ◌++◌, ◌∷◌, [], pos, length, List, ℤ, IfOk, IsOk, IsErr};
 ghost use Rattle.std.specs.Result.{result_err};
-ghost use Rattle.tetra_bits.specs.declared.soft.TheConstants.{SOFT_MAX};
-ghost use Rattle.tetra_settings.specs.Readings.{IsWellFormed};
 ghost use Rattle.tetra_settings.specs.Slots.{timeslot_of};
 ghost use Rattle.tetra_settings.specs.Validity.{IsValid};
-ghost use Rattle.tetra_session.specs.Fronts.{IsBounded};
-ghost use Rattle.tetra_session.specs.Heard.{slot_reading};
+ghost use Rattle.tetra_session.specs.Fronts.{IsFront};
+ghost use Rattle.tetra_session.specs.Heard.{HeardStands, slot_front, slot_reading};
 ghost use Rattle.tetra_c.specs.Faults.{answer_of, number_of};
+ghost use Rattle.tetra_c.specs.KeptWords.{KeptStands};
 ghost use Rattle.tetra_c.specs.Readings.{ArePut};
 ghost use Rattle.tetra_c.specs.Receivers.{is_lane, are_lanes, AreClear, receiver_fault, ReceiverIs};
 ghost use Rattle.tetra_c.specs.Settings.{settings_fault, settings_of};
@@ -15,13 +14,14 @@ ghost use Rattle.tetra_c.specs.Values.{soft_values};
 
 use crate::fault::Fault;
 use crate::kept_words::TetraKeptWords;
-use crate::readings::{TetraReading, put_reading};
+use crate::readings::{TetraReading, put_front};
 use crate::rings::is_ring;
 use crate::settings::{TetraSettings, checked_settings};
 use crate::soft::slot_values;
 use arrayvec::ArrayVec;
-use tetra_session::{Keys, Work, depth, read_turn};
-use tetra_settings::{Settings, SlotReading, clock};
+use tetra_bits::{Bits, Mark, Reading};
+use tetra_session::{Front, Keys, Work, depth, hear_turn};
+use tetra_settings::{Settings, clock};
 
 /// A receiver: its settings, how many slots it has read, and what is kept of timeslots 1 to 4. The caller keeps it.
 #[repr(C)]
@@ -106,45 +106,78 @@ pub fn lane_at(settings: &Settings, turn: u32) -> usize
     usize::from(timeslot) - 1
 }
 
-/// An empty reading, to be written over.
-pub fn empty_reading() -> SlotReading {
-    SlotReading {
+/// A front without fields, to be written over.
+pub fn empty_front() -> Front {
+    Front {
         letter: 0,
         fields: ArrayVec::new(),
     }
 }
 
-/// Reads the slot whose turn it is, and writes what is read of it over a reading.
+/// Hears the slot numbered `turn`: writes its front over one that is there, and takes it into the lane of its timeslot.
 #[inline(never)]
-pub fn read(
+pub fn hear(
+    settings: &Settings,
+    turn: u32,
+    slot: &[i8; 510],
+    lane: &mut TetraKeptWords,
+    front: &mut Front,
+)
+    requires { IsValid settings.now }
+    ensures front { (history : List (List ℤ)) → turn ≡ length history
+        → HeardStands KeptStands settings.now turn history lane.old
+        → front.new ≡ slot_front settings.now history (soft_values slot.now) }
+    ensures stands { (history : List (List ℤ)) → turn ≡ length history
+        → HeardStands KeptStands settings.now turn history lane.old
+        → HeardStands KeptStands settings.now turn (history ++ soft_values slot.now ∷ []) lane.new }
+    ensures formed { IsFront front.new }
+{
+    let mut half = Reading {
+        mark: Mark::Unchecked,
+        metric: 0,
+        bits: Bits::new(),
+        potentials: None,
+    };
+    hear_turn(
+        settings,
+        &Keys::new(&settings.colour),
+        turn,
+        lane,
+        &mut Work::new(),
+        &mut half,
+        &slot_values(slot),
+        front,
+    );
+}
+
+/// Hears the slot whose turn it is, and writes its front over one that is there. Gives the settings.
+pub fn hear_next(
     receiver: &mut TetraReceiver,
     slot: &[i8; 510],
-    reading: &mut SlotReading,
-) -> Result<(), Fault>
+    front: &mut Front,
+) -> Result<Settings, Fault>
     ensures fault { result_err result ≡ receiver_fault receiver.old }
-    ensures reading { IsOk result → (settings : Settings) (history : List (List ℤ)) → ReceiverIs settings history receiver.old
-        → reading.new ≡ slot_reading settings history (soft_values slot.now) }
+    ensures value { IfOk result (λ found. found ≡ settings_of receiver.old.settings) }
+    ensures front { IsOk result → (settings : Settings) (history : List (List ℤ)) → ReceiverIs settings history receiver.old
+        → front.new ≡ slot_front settings history (soft_values slot.now) }
     ensures stands { IsOk result → (settings : Settings) (history : List (List ℤ)) → ReceiverIs settings history receiver.old
         → ReceiverIs settings (history ++ soft_values slot.now ∷ []) receiver.new }
     ensures settings { receiver.new.settings ≡ receiver.old.settings }
     ensures turn { IsOk result → receiver.new.turn ≡ receiver.old.turn + 1 }
     ensures kept { IsErr result → receiver.new ≡ receiver.old }
-    ensures well_formed { IsOk result → IsWellFormed reading.new }
-    ensures small { IsOk result → All (IsBounded (nat_abs SOFT_MAX)) reading.new.fields.items }
+    ensures formed { IsOk result → IsFront front.new }
 {
     let settings = ready(receiver)?;
     let at = lane_at(&settings, receiver.turn);
-    read_turn(
+    hear(
         &settings,
-        &Keys::new(&settings.colour),
         receiver.turn,
+        slot,
         &mut receiver.lanes[at],
-        &mut Work::new(),
-        &slot_values(slot),
-        reading,
+        front,
     );
     receiver.turn += 1;
-    Ok(())
+    Ok(settings)
 }
 
 /// Reads the slot whose turn it is from its 510 values. Answers 0, or the number of a fault, and then nothing is written
@@ -169,10 +202,10 @@ pub extern "C" fn tetra_receiver_slot(
     ensures reading_kept { result ≢ pos 0 → reading.new ≡ reading.old }
     ensures receiver_kept { result ≢ pos 0 → receiver.new ≡ receiver.old }
 {
-    let mut found = empty_reading();
-    match read(receiver, slot, &mut found) {
-        Ok(()) => {
-            put_reading(&found, reading);
+    let mut front = empty_front();
+    match hear_next(receiver, slot, &mut front) {
+        Ok(settings) => {
+            put_front(&settings.rows, &front, reading);
             0
         }
         Err(fault) => fault.number(),

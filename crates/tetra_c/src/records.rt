@@ -1,33 +1,30 @@
 // Reading records: the bytes of a reading with its certificates, and their audit.
-ghost use Rattle.std.specs.Prelude.{◌≡◌, ◌≢◌, ◌<◌, ◌≤◌, ◌+◌, ◌-◌, ◌++◌, ◌∷◌, [], pos, length, take, List, ℤ, All, IfOk, IsOk, IsErr, None};
+ghost use Rattle.std.specs.Prelude.{◌≡◌, ◌≢◌, ◌<◌, ◌≤◌, ◌+◌, ◌-◌, ◌++◌, ◌∷◌, [], pos, length, take, List, ℤ, IfOk, IsOk, IsErr, None};
 ghost use Rattle.std.specs.Result.{result_err};
+ghost use Rattle.arrayvec.specs.ArrayVec.{array_vec_len};
 ghost use Rattle.tetra_audit.specs.Fields.{claim_length};
 ghost use Rattle.tetra_audit.specs.Verdicts.{slot_verdict};
-ghost use Rattle.tetra_records.specs.Readings.{reading_spelling, IsSmall};
+ghost use Rattle.tetra_records.specs.Readings.{reading_spelling};
 ghost use Rattle.tetra_session.specs.Fronts.{IsFront};
-ghost use Rattle.tetra_session.specs.Heard.{HeardStands, slot_front, slot_reading};
-ghost use Rattle.tetra_settings.specs.Readings.{IsWellFormed};
-ghost use Rattle.tetra_settings.specs.Validity.{IsValid};
+ghost use Rattle.tetra_session.specs.Heard.{slot_front, slot_reading};
+ghost use Rattle.tetra_session.specs.Readers.{read_front};
+ghost use Rattle.tetra_settings.specs.declared.types.Settings.{Settings};
 ghost use Rattle.tetra_c.specs.Faults.{answer_of, number_of};
-ghost use Rattle.tetra_c.specs.KeptWords.{KeptStands};
 ghost use Rattle.tetra_c.specs.Receivers.{receiver_fault, ReceiverIs};
 ghost use Rattle.tetra_c.specs.Records.{form_of, audit_for, claim_fault};
-ghost use Rattle.tetra_c.specs.Settings.{settings_of};
 ghost use Rattle.tetra_c.specs.Values.{soft_values};
 
 use crate::fault::Fault;
-use crate::kept_words::TetraKeptWords;
-use crate::receiver::{TetraReceiver, empty_reading, lane_at, read, ready};
-use crate::soft::slot_values;
+use crate::receiver::{TetraReceiver, empty_front, hear, hear_next, lane_at, ready};
 use crate::verdict::{TetraVerdict, verdict_for};
 use arrayvec::ArrayVec;
 use tetra_audit::{FieldWhy, SlotVerdict, audit_slot_with, claim_len};
-use tetra_bits::{Bits, Mark, Potentials, Reading};
+use tetra_bits::Potentials;
 use tetra_cert::Verdict;
-use tetra_records::add_reading;
+use tetra_records::add_field;
 use tetra_rm::Rows;
-use tetra_session::{Front, Keys, Work, hear_turn};
-use tetra_settings::{Form, Settings, SlotReading};
+use tetra_session::{Front, read_heard};
+use tetra_settings::{Field, Form};
 
 /// The form of a record: with certificates where the number is not 0.
 fn form_of(certificates: u8) -> Form
@@ -40,15 +37,29 @@ fn form_of(certificates: u8) -> Form
     }
 }
 
-/// Writes the record of a reading at the front of the bytes, and answers how many it has.
+/// Puts the reading record of a front behind what stands in `out`, which has room for the longest one. One field is read
+/// at a time.
+fn add_front<const N: usize>(rows: &Rows, front: &Front, form: Form, out: &mut ArrayVec<u8, N>)
+    requires formed { IsFront front.now }
+    requires room { array_vec_len out.old + 18743 ≤ N }
+    ensures { out.new.items ≡ out.old.items ++ reading_spelling form (read_front rows.now.0 front.now) }
+{
+    out.push(front.letter);
+    let mut field = Field::default();
+    for heard in front.fields.as_slice() {
+        read_heard(rows, heard, &mut field);
+        add_field(&field, form, out);
+    }
+}
+
+/// Writes the reading record of a front at the front of the bytes, and answers how many it has.
 #[inline(never)]
-fn put_record(reading: &SlotReading, form: Form, bytes: &mut [u8; 18743]) -> u32
-    requires formed { IsWellFormed reading.now }
-    requires small { All IsSmall reading.now.fields.items }
-    ensures { take result bytes.new ≡ reading_spelling form reading.now }
+fn put_record(rows: &Rows, front: &Front, form: Form, bytes: &mut [u8; 18743]) -> u32
+    requires { IsFront front.now }
+    ensures { take result bytes.new ≡ reading_spelling form (read_front rows.now.0 front.now) }
 {
     let mut record = ArrayVec::<u8, 18743>::new();
-    add_reading(reading, form, &mut record);
+    add_front(rows, front, form, &mut record);
     bytes[..record.len()].copy_from_slice(record.as_slice());
     record.len() as u32
 }
@@ -79,10 +90,10 @@ pub extern "C" fn tetra_receiver_record(
     ensures written_kept { result ≢ pos 0 → written.new ≡ written.old }
     ensures receiver_kept { result ≢ pos 0 → receiver.new ≡ receiver.old }
 {
-    let mut found = empty_reading();
-    match read(receiver, slot, &mut found) {
-        Ok(()) => {
-            *written = put_record(&found, form_of(certificates), bytes);
+    let mut front = empty_front();
+    match hear_next(receiver, slot, &mut front) {
+        Ok(settings) => {
+            *written = put_record(&settings.rows, &front, form_of(certificates), bytes);
             0
         }
         Err(fault) => fault.number(),
@@ -132,42 +143,6 @@ fn audit_for(verdict: SlotVerdict) -> TetraAudit
     }
 }
 
-/// Hears the slot numbered `turn`: writes its front over one that is there, and takes it into the lane of its timeslot.
-#[inline(never)]
-fn hear(
-    settings: &Settings,
-    turn: u32,
-    slot: &[i8; 510],
-    lane: &mut TetraKeptWords,
-    front: &mut Front,
-)
-    requires { IsValid settings.now }
-    ensures front { (history : List (List ℤ)) → turn ≡ length history
-        → HeardStands KeptStands settings.now turn history lane.old
-        → front.new ≡ slot_front settings.now history (soft_values slot.now) }
-    ensures stands { (history : List (List ℤ)) → turn ≡ length history
-        → HeardStands KeptStands settings.now turn history lane.old
-        → HeardStands KeptStands settings.now turn (history ++ soft_values slot.now ∷ []) lane.new }
-    ensures formed { IsFront front.new }
-{
-    let mut half = Reading {
-        mark: Mark::Unchecked,
-        metric: 0,
-        bits: Bits::new(),
-        potentials: None,
-    };
-    hear_turn(
-        settings,
-        &Keys::new(&settings.colour),
-        turn,
-        lane,
-        &mut Work::new(),
-        &mut half,
-        &slot_values(slot),
-        front,
-    );
-}
-
 /// Audits a claim of the length of the front's record.
 #[inline(never)]
 fn audit(rows: &Rows, front: &Front, claim: &[u8]) -> TetraAudit
@@ -201,10 +176,7 @@ fn audited(
     let at = lane_at(&settings, receiver.turn);
     // A copy, so that nothing is written where the claim is too long or too short.
     let mut lane = receiver.lanes[at];
-    let mut front = Front {
-        letter: 0,
-        fields: ArrayVec::new(),
-    };
+    let mut front = empty_front();
     hear(&settings, receiver.turn, slot, &mut lane, &mut front);
     if claim.len() != claim_len(&front) {
         return Err(Fault::Length);

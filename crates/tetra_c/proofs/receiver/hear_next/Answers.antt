@@ -1,11 +1,12 @@
 use Rattle.std.proofs.Common.{◌≡◌, ◌<◌, ◌+◌, length, arith, refl, sym, ◌∙◌, subst}
 use Rattle.tetra_settings.specs.Slots.{timeslot_of}
 use Rattle.tetra_c.specs.Receivers.{ReceiverIs}
+use Rattle.tetra_c.specs.Values.{soft_values}
 use Rattle.tetra_c.proofs.Turns.{lane_now, receiver_turned}
-use Rattle.tetra_c.proofs.receiver.read.Goals as goal
+use Rattle.tetra_c.proofs.receiver.hear_next.Goals as goal
 
-pub returns-clause-reading : goal.returns-clause-reading
-returns-clause-reading c = λ done settings history h.
+pub returns-clause-front : goal.returns-clause-front
+returns-clause-front c = λ done settings history h.
     let receiver = c.args.receiver.now in
     let found = c.in_ok-settings.settings in
     let at = c.lane_at-at.result in
@@ -14,8 +15,7 @@ returns-clause-reading c = λ done settings history h.
     let here : at + 1 ≡ timeslot_of found.at receiver.turn = c.lane_at-at.ensures.value in
     let within : at < 4 = c.lane_at-at.ensures.within in
     let four : length receiver.lanes ≡ 4 = omega arith in
-    rw (← same, ← c.slot_values.ensures.values)
-    (c.read_turn.ensures.reading history is.turn (lane_now found history receiver at is here within four _))
+    rw (← same) (c.hear.ensures.front history is.turn (lane_now found history receiver at is here within four _))
 
 pub returns-clause-stands : goal.returns-clause-stands
 returns-clause-stands c = λ done settings history h.
@@ -27,6 +27,6 @@ returns-clause-stands c = λ done settings history h.
     let here : at + 1 ≡ timeslot_of found.at receiver.turn = c.lane_at-at.ensures.value in
     let within : at < 4 = c.lane_at-at.ensures.within in
     let four : length receiver.lanes ≡ 4 = omega arith in
-    rw (← same, ← c.slot_values.ensures.values)
-    (receiver_turned found history receiver at is here within four c.slot_values.result c.read_turn.new.lane _ refl refl refl
-    (c.read_turn.ensures.stands history is.turn (lane_now found history receiver at is here within four _)))
+    rw (← same)
+    (receiver_turned found history receiver at is here within four (soft_values c.args.slot.now) c.hear.new.lane _ refl refl refl
+    (c.hear.ensures.stands history is.turn (lane_now found history receiver at is here within four _)))

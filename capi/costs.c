@@ -1,5 +1,5 @@
-/* What the calls cost over a file of cases: `costs time FILE` prints microseconds per call for each row, the best of several
- * passes over its slots, and `costs stack FILE` the most bytes of stack that each call takes over all slots. */
+/* What the calls cost over a file of cases: `costs time FILE` prints microseconds of processor time per call for each row, the
+ * best of several passes over its slots, and `costs stack FILE` the most bytes of stack that each call takes over all slots. */
 #define _DEFAULT_SOURCE
 #include "cases.h"
 #include <pthread.h>
@@ -78,7 +78,7 @@ static void pass(void (*call)(const struct slot_case *))
 static double now(void)
 {
     struct timespec time;
-    clock_gettime(CLOCK_MONOTONIC, &time);
+    clock_gettime(CLOCK_PROCESS_CPUTIME_ID, &time);
     return (double)time.tv_sec * 1e6 + (double)time.tv_nsec * 1e-3;
 }
 

@@ -1,7 +1,8 @@
 // The matrix of speech.
 ghost use Rattle.std.specs.Prelude.{◌≡◌, ◌≤◌, ◌<◌, ◌+◌, ◌-◌, ◌*◌, ℕ, Bool, List, ℤ, pos, false, length};
 ghost use Rattle.tetra_interleave.specs.Matrix.{matrix_place};
-ghost use Rattle.tetra_interleave.specs.Placed.{IsPlaced, placed, taken};
+ghost use Rattle.tetra_interleave.specs.Placed.{IsPlaced, entry_from, placed, taken};
+ghost use Rattle.tetra_bits.specs.lemmas.InPlace.{Begins};
 
 use tetra_bits::{Bits, Soft};
 
@@ -68,33 +69,53 @@ fn bits_by_columns<const ROWS: usize, const COLS: usize>(x: &Bits) -> Bits
     requires size { length x.now ≡ ROWS * COLS }
     ensures { result ≡ taken false (ROWS * COLS) (matrix_place ROWS COLS) x.now }
 {
-    let mut all = Bits::new();
-    for i in 0..ROWS * COLS {
-        all.push(x.get(place::<ROWS, COLS>(i)));
+    let mut all = Bits::zeros(ROWS * COLS);
+    for row in 0..ROWS {
+        take_row_of_bits::<ROWS, COLS>(x, row, &mut all);
     }
     all
 }
 
-/// The same of soft values, into a list that is there.
+/// Takes the bits of one row, which stand `ROWS` places apart. Rows count from 0. No place is divided.
+fn take_row_of_bits<const ROWS: usize, const COLS: usize>(x: &Bits, row: usize, all: &mut Bits)
+    requires few { ROWS * COLS ≤ 432 }
+    requires size { length x.now ≡ ROWS * COLS }
+    requires row { row < ROWS }
+    requires room { length all.old ≡ ROWS * COLS }
+    ensures room { length all.new ≡ ROWS * COLS }
+    ensures taken { Begins (entry_from false (matrix_place ROWS COLS) x.now) false (COLS * row) all.old
+        → Begins (entry_from false (matrix_place ROWS COLS) x.now) false (COLS * (row + 1)) all.new }
+{
+    for col in 0..COLS {
+        all.set(COLS * row + col, x.get(ROWS * col + row));
+    }
+}
+
+/// The same as `bits_by_columns` of soft values, into a list that is there.
 fn values_by_columns<const ROWS: usize, const COLS: usize>(x: &Soft, all: &mut Soft)
     requires few { ROWS * COLS ≤ 432 }
     requires size { length x.now ≡ ROWS * COLS }
     ensures { all.new ≡ taken (pos 0) (ROWS * COLS) (matrix_place ROWS COLS) x.now }
 {
-    all.clear();
-    for i in 0..ROWS * COLS {
-        all.push(x.get(place::<ROWS, COLS>(i)));
+    all.resize(ROWS * COLS);
+    for row in 0..ROWS {
+        take_row_of_values::<ROWS, COLS>(x, row, all);
     }
 }
 
-/// The place of entry `i`. Both count from 0 here.
-fn place<const ROWS: usize, const COLS: usize>(i: usize) -> usize
+/// The same as `take_row_of_bits` of soft values.
+fn take_row_of_values<const ROWS: usize, const COLS: usize>(x: &Soft, row: usize, all: &mut Soft)
     requires few { ROWS * COLS ≤ 432 }
-    requires entry { i < ROWS * COLS }
-    ensures value { result ≡ matrix_place ROWS COLS (i + 1) - 1 }
-    ensures within { result < ROWS * COLS }
+    requires size { length x.now ≡ ROWS * COLS }
+    requires row { row < ROWS }
+    requires room { length all.old ≡ ROWS * COLS }
+    ensures room { length all.new ≡ ROWS * COLS }
+    ensures taken { Begins (entry_from (pos 0) (matrix_place ROWS COLS) x.now) (pos 0) (COLS * row) all.old
+        → Begins (entry_from (pos 0) (matrix_place ROWS COLS) x.now) (pos 0) (COLS * (row + 1)) all.new }
 {
-    ROWS * (i % COLS) + i / COLS
+    for col in 0..COLS {
+        all.set(COLS * row + col, x.get(ROWS * col + row));
+    }
 }
 
 // Which way the places go, on a few entries.

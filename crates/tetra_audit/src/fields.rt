@@ -15,7 +15,7 @@ use tetra_bits::{Bits, Mark, Potentials, Soft, pack, read_plain, unpack};
 use tetra_cert::{Verdict, check};
 use tetra_parity::{Parity, mark};
 use tetra_puncture::{P148, P292, Plan, SpeechHalf, SpeechWhole, TwoThirds};
-use tetra_rm::{Rows, decode, message_bits};
+use tetra_rm::{AccessCode, message_bits};
 use tetra_session::FrontField;
 use tetra_settings::FieldName;
 use tetra_speech::{part, trellis_part, uncoded_part, values};
@@ -52,12 +52,12 @@ fn plain_fault(bits: &Bits, metric: u32, mark: Mark, bytes: &[u8]) -> Option<Fie
 }
 
 /// The tests of an access field.
-fn access_fault(rows: &Rows, soft: &Soft, bytes: &[u8]) -> Option<FieldWhy>
+fn access_fault(code: &AccessCode, soft: &Soft, bytes: &[u8]) -> Option<FieldWhy>
     requires values { length soft.now ≡ 30 }
     requires size { length bytes.now ≡ 5 }
-    ensures { result ≡ plain_why (access_reading rows.now.0 soft.now) bytes.now }
+    ensures { result ≡ plain_why (access_reading code.now.0 soft.now) bytes.now }
 {
-    let read = decode(rows, soft);
+    let read = code.decode(soft);
     plain_fault(
         &message_bits(read.message),
         read.metric,
@@ -133,17 +133,17 @@ fn speech_fault<P: Plan>(
     head_fault(bytes, potentials.at(0, 0), mark(parity, &protected))
 }
 
-/// The first test of a field that fails on its bytes. The rows are those of the access code. A certificate is read
-/// into `potentials`.
+/// The first test of a field that fails on its bytes. The code is that of the access field. A certificate is
+/// read into `potentials`.
 pub fn field_fault(
-    rows: &Rows,
+    code: &AccessCode,
     field: &FrontField,
     bytes: &[u8],
     potentials: &mut Potentials,
 ) -> Option<FieldWhy>
     requires field { IsFrontField field.now }
     requires size { length bytes.now ≡ field_length field.now }
-    ensures { result ≡ field_why rows.now.0 field.now bytes.now }
+    ensures { result ≡ field_why code.now.0 field.now bytes.now }
 {
     let Some(soft) = &field.soft else {
         return plain_fault(
@@ -157,7 +157,7 @@ pub fn field_fault(
     let parity = Parity::Sixteen;
     let none = Parity::Nothing;
     match field.name {
-        FieldName::Aach => access_fault(rows, soft, bytes),
+        FieldName::Aach => access_fault(code, soft, bytes),
         FieldName::Sync => coded_fault::<TwoThirds<80, 120>>(parity, soft, bytes, potentials),
         FieldName::Half => coded_fault::<TwoThirds<144, 216>>(parity, soft, bytes, potentials),
         FieldName::Hu => coded_fault::<TwoThirds<112, 168>>(parity, soft, bytes, potentials),

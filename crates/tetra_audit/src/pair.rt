@@ -5,9 +5,10 @@ ghost use Rattle.tetra_audit.specs.Fields.{claim_length};
 ghost use Rattle.tetra_audit.specs.Pairs.{AgreeOutside, AgreeOnPath};
 ghost use Rattle.tetra_audit.specs.Verdicts.{slot_verdict};
 
-use crate::slots::audit_slot;
+use crate::slots::audit_slot_with;
 use crate::verdict::SlotVerdict;
-use tetra_rm::Rows;
+use tetra_bits::Potentials;
+use tetra_rm::{AccessCode, Rows};
 use tetra_session::Front;
 
 /// The verdicts of `audit_slot` on two claims of `claim_len` bytes about the same slot. Where both are `Agrees`, the
@@ -30,7 +31,9 @@ pub fn audit_pair(
     ensures on_path { result.0 ≡ SlotVerdict.Agrees → result.1 ≡ SlotVerdict.Agrees
         → AgreeOnPath front.now first.now second.now }
 {
-    let of_first = audit_slot(rows, front, first);
-    let of_second = audit_slot(rows, front, second);
+    let code = AccessCode::of(rows);
+    let mut potentials = Potentials::new();
+    let of_first = audit_slot_with(&mut potentials, &code, front, first);
+    let of_second = audit_slot_with(&mut potentials, &code, front, second);
     (of_first, of_second)
 }

@@ -8,7 +8,7 @@ use crate::fields::field_fault;
 use crate::layouts::field_len;
 use crate::verdict::SlotVerdict;
 use tetra_bits::Potentials;
-use tetra_rm::Rows;
+use tetra_rm::{AccessCode, Rows};
 use tetra_session::Front;
 
 /// Whether `claim`, a reading record with certificates of `claim_len` bytes, agrees with the letter and
@@ -20,19 +20,20 @@ pub fn audit_slot(rows: &Rows, front: &Front, claim: &[u8]) -> SlotVerdict
     requires size { length claim.now ≡ claim_length front.now }
     ensures { result ≡ slot_verdict rows.now front.now claim.now }
 {
-    audit_slot_with(&mut Potentials::new(), rows, front, claim)
+    audit_slot_with(&mut Potentials::new(), &AccessCode::of(rows), front, claim)
 }
 
-/// The same, with potentials into which certificates are read, whatever they hold.
+/// The same by the access code of the rows, which is made once for many slots, and with potentials into which certificates
+/// are read, whatever they hold.
 pub fn audit_slot_with(
     potentials: &mut Potentials,
-    rows: &Rows,
+    code: &AccessCode,
     front: &Front,
     claim: &[u8],
 ) -> SlotVerdict
     requires front { IsFront front.now }
     requires size { length claim.now ≡ claim_length front.now }
-    ensures { result ≡ slot_verdict rows.now front.now claim.now }
+    ensures { result ≡ slot_verdict code.now front.now claim.now }
 {
     if claim[0] != front.letter {
         return SlotVerdict::Kind;
@@ -40,7 +41,7 @@ pub fn audit_slot_with(
     let mut at = 1;
     for (i, field) in front.fields.as_slice().iter().enumerate() {
         let end = at + field_len(field);
-        if let Some(why) = field_fault(rows, field, &claim[at..end], potentials) {
+        if let Some(why) = field_fault(code, field, &claim[at..end], potentials) {
             return SlotVerdict::Field {
                 index: i as u8,
                 why,

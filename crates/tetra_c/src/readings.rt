@@ -7,7 +7,7 @@ ghost use Rattle.tetra_c.specs.Bytes.{bytes_of};
 ghost use Rattle.tetra_c.specs.Readings.{mark_number, name_number, IsPut, ArePut};
 
 use tetra_bits::{Bits, Mark, Potentials};
-use tetra_rm::Rows;
+use tetra_rm::AccessCode;
 use tetra_session::{Front, read_heard};
 use tetra_settings::{Field, FieldName};
 
@@ -105,7 +105,7 @@ fn put_field(field: &Field, out: &mut TetraField)
 
 /// Writes what is read of a slot by its front. One field is read at a time.
 #[inline(never)]
-pub fn put_front(rows: &Rows, front: &Front, out: &mut TetraReading)
+pub fn put_front(rows: &AccessCode, front: &Front, out: &mut TetraReading)
     requires { IsFront front.now }
     ensures { ArePut (read_front rows.now.0 front.now) out.new }
 {

@@ -19,8 +19,9 @@ use crate::rings::is_ring;
 use crate::settings::{TetraSettings, checked_settings};
 use crate::soft::slot_values;
 use arrayvec::ArrayVec;
-use tetra_bits::{Bits, Mark, Reading};
-use tetra_session::{Front, Keys, Work, depth, hear_turn};
+use tetra_rm::AccessCode;
+use tetra_scramble::key;
+use tetra_session::{Front, Work, depth, hear_turn};
 use tetra_settings::{Settings, clock};
 
 /// A receiver: its settings, how many slots it has read, and what is kept of timeslots 1 to 4. The caller keeps it.
@@ -132,19 +133,12 @@ pub fn hear(
         → HeardStands KeptStands settings.now turn (history ++ soft_values slot.now ∷ []) lane.new }
     ensures formed { IsFront front.new }
 {
-    let mut half = Reading {
-        mark: Mark::Unchecked,
-        metric: 0,
-        bits: Bits::new(),
-        potentials: None,
-    };
     hear_turn(
         settings,
-        &Keys::new(&settings.colour),
+        &key(&settings.colour),
         turn,
         lane,
         &mut Work::new(),
-        &mut half,
         &slot_values(slot),
         front,
     );
@@ -205,7 +199,7 @@ pub extern "C" fn tetra_receiver_slot(
     let mut front = empty_front();
     match hear_next(receiver, slot, &mut front) {
         Ok(settings) => {
-            put_front(&settings.rows, &front, reading);
+            put_front(&AccessCode::of(&settings.rows), &front, reading);
             0
         }
         Err(fault) => fault.number(),

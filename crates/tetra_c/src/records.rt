@@ -22,7 +22,7 @@ use tetra_audit::{FieldWhy, SlotVerdict, audit_slot_with, claim_len};
 use tetra_bits::Potentials;
 use tetra_cert::Verdict;
 use tetra_records::add_field;
-use tetra_rm::Rows;
+use tetra_rm::AccessCode;
 use tetra_session::{Front, read_heard};
 use tetra_settings::{Field, Form};
 
@@ -39,7 +39,7 @@ fn form_of(certificates: u8) -> Form
 
 /// Puts the reading record of a front behind what stands in `out`, which has room for the longest one. One field is read
 /// at a time.
-fn add_front<const N: usize>(rows: &Rows, front: &Front, form: Form, out: &mut ArrayVec<u8, N>)
+fn add_front<const N: usize>(rows: &AccessCode, front: &Front, form: Form, out: &mut ArrayVec<u8, N>)
     requires formed { IsFront front.now }
     requires room { array_vec_len out.old + 18743 ≤ N }
     ensures { out.new.items ≡ out.old.items ++ reading_spelling form (read_front rows.now.0 front.now) }
@@ -54,7 +54,7 @@ fn add_front<const N: usize>(rows: &Rows, front: &Front, form: Form, out: &mut A
 
 /// Writes the reading record of a front at the front of the bytes, and answers how many it has.
 #[inline(never)]
-fn put_record(rows: &Rows, front: &Front, form: Form, bytes: &mut [u8; 18743]) -> u32
+fn put_record(rows: &AccessCode, front: &Front, form: Form, bytes: &mut [u8; 18743]) -> u32
     requires { IsFront front.now }
     ensures { take result bytes.new ≡ reading_spelling form (read_front rows.now.0 front.now) }
 {
@@ -93,7 +93,7 @@ pub extern "C" fn tetra_receiver_record(
     let mut front = empty_front();
     match hear_next(receiver, slot, &mut front) {
         Ok(settings) => {
-            *written = put_record(&settings.rows, &front, form_of(certificates), bytes);
+            *written = put_record(&AccessCode::of(&settings.rows), &front, form_of(certificates), bytes);
             0
         }
         Err(fault) => fault.number(),
@@ -145,7 +145,7 @@ fn audit_for(verdict: SlotVerdict) -> TetraAudit
 
 /// Audits a claim of the length of the front's record.
 #[inline(never)]
-fn audit(rows: &Rows, front: &Front, claim: &[u8]) -> TetraAudit
+fn audit(rows: &AccessCode, front: &Front, claim: &[u8]) -> TetraAudit
     requires front { IsFront front.now }
     requires size { length claim.now ≡ claim_length front.now }
     ensures { result ≡ audit_for (slot_verdict rows.now front.now claim.now) }
@@ -183,7 +183,7 @@ fn audited(
     }
     receiver.lanes[at] = lane;
     receiver.turn += 1;
-    Ok(audit(&settings.rows, &front, claim))
+    Ok(audit(&AccessCode::of(&settings.rows), &front, claim))
 }
 
 /// Audits a reading record with certificates of the slot whose turn it is, whoever wrote it. Answers 0, and then the

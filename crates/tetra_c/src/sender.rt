@@ -15,7 +15,8 @@ use crate::fault::Fault;
 use crate::kept_blocks::TetraKeptBlocks;
 use crate::rings::is_ring;
 use crate::settings::{TetraSettings, checked_settings};
-use tetra_session::{Keys, depth, send_turn};
+use tetra_scramble::key;
+use tetra_session::{depth, send_turn};
 use tetra_settings::{Settings, SlotBlocks, clock};
 
 /// A sender: its settings, how many slots it has written, and what it keeps of timeslots 1 to 4. The caller keeps it, and
@@ -130,10 +131,10 @@ pub extern "C" fn tetra_sender_slot(
 {
     match checked(sender, blocks) {
         Ok((settings, blocks)) => {
-            let keys = Keys::new(&settings.colour);
+            let key = key(&settings.colour);
             let (timeslot, _, _) = clock(settings.at, sender.turn);
             let lane = &mut sender.lanes[usize::from(timeslot) - 1];
-            *slot = send_turn(&settings, &keys, sender.turn, lane, &blocks);
+            *slot = send_turn(&settings, &key, sender.turn, lane, &blocks);
             sender.turn += 1;
             0
         }

@@ -6,7 +6,7 @@ ghost use Rattle.tetra_channels.specs.Fields.{access_reading};
 ghost use Rattle.tetra_channels.specs.Laws.{UndamagedAccessIsRead};
 
 use tetra_bits::{Bits, Mark, Reading, Soft};
-use tetra_rm::{Rows, decode, encode, message_bits, undamaged_arrives};
+use tetra_rm::{AccessCode, Rows, encode, message_bits, undamaged_arrives};
 use tetra_scramble::{Key, flip_bits_in_place, flipped_back, stays_undamaged};
 
 /// AACH: a message of 14 bits, of which 30 are sent (EN 300 392-2 clause 8.3.1.1; the rows of its code are given).
@@ -26,13 +26,13 @@ impl Aach {
 
     /// What is read over 30 values that are descrambled: the first-least message of the access code, unchecked, and its
     /// metric. There are no potentials.
-    pub fn decode2(rows: &Rows, soft: &Soft) -> Reading
+    pub fn decode2(code: &AccessCode, soft: &Soft) -> Reading
         requires { length soft.now ≡ 30 }
-        ensures reading { result ≡ access_reading rows.now.0 soft.now }
+        ensures reading { result ≡ access_reading code.now.0 soft.now }
         ensures size { length result.bits ≡ 14 }
         ensures within { (top : ℕ) → AllWithin top soft.now → result.metric ≤ top * 30 }
     {
-        let read = decode(rows, soft);
+        let read = code.decode(soft);
         Reading {
             mark: Mark::Unchecked,
             metric: read.metric,
@@ -42,13 +42,13 @@ impl Aach {
     }
 
     /// The same into a reading that is there.
-    pub fn decode2_into(rows: &Rows, soft: &Soft, reading: &mut Reading)
+    pub fn decode2_into(code: &AccessCode, soft: &Soft, reading: &mut Reading)
         requires { length soft.now ≡ 30 }
-        ensures reading { reading.new ≡ access_reading rows.now.0 soft.now }
+        ensures reading { reading.new ≡ access_reading code.now.0 soft.now }
         ensures size { length reading.new.bits ≡ 14 }
         ensures within { (top : ℕ) → AllWithin top soft.now → reading.new.metric ≤ top * 30 }
     {
-        let read = decode(rows, soft);
+        let read = code.decode(soft);
         reading.mark = Mark::Unchecked;
         reading.metric = read.metric;
         reading.bits = message_bits(read.message);

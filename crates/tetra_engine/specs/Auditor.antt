@@ -8,13 +8,15 @@ use Rattle.tetra_engine.specs.Intake.{IntakeStands}
 use Rattle.tetra_engine.specs.Refusals.{Counts}
 use Rattle.tetra_engine.specs.Slots.{soft_values}
 
--- it has read and judged these slots
+-- it has read and judged these slots, by the access code of its settings
 pub record AuditorStands (a : Auditor) (before : List Claimed) : Type 0 where
+  pub code : a.code ≡ a.intake.settings.rows
   pub intake : IntakeStands a.intake (slots_of before)
   pub refusals : Counts a.refusals (refused_slots a.intake.settings [] before)
 
 -- and it holds the next one, whose front the receiver has taken
 pub record AuditorHolds (a : Auditor) (before : List Claimed) (input : Claimed) : Type 0 where
+  pub code : a.code ≡ a.intake.settings.rows
   pub intake : IntakeStands a.intake (slots_of before ++ soft_values input.0 ∷ [])
   pub refusals : Counts a.refusals (refused_slots a.intake.settings [] before)
   pub counted : a.refusals.count < 16777216

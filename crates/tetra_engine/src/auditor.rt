@@ -13,13 +13,15 @@ use tetra_audit::{audit_slot_with, claim_len};
 use tetra_bits::Potentials;
 use tetra_io::{Filled, Sink, SinkFault, Source, fill, put_all};
 use tetra_records::RecordFault;
+use tetra_rm::AccessCode;
 use tetra_session::Front;
 use tetra_settings::Settings;
 
-/// An audit: the slots that are read, which of them were refused, and of the last one its number, what a receiver takes
-/// from it, the record that is claimed for it, and potentials into which certificates are read.
+/// An audit: the access code, the slots that are read, which of them were refused, and of the last one its number, what a
+/// receiver takes from it, the record that is claimed for it, and potentials into which certificates are read.
 #[derive(Drop)]
 pub struct Auditor {
+    code: AccessCode,
     intake: Intake,
     refusals: Refusals,
     slot: u32,
@@ -39,6 +41,7 @@ impl Auditor {
         ensures settings { result.intake.settings ≡ settings.now }
     {
         Auditor {
+            code: AccessCode::of(&settings.rows),
             intake: Intake::new(settings),
             refusals: Refusals::new(),
             slot: 0,
@@ -87,7 +90,7 @@ impl Work for Auditor {
     fn write<K: Sink>(&mut self, sink: &mut K) -> Result<(), SinkFault> {
         let verdict = audit_slot_with(
             &mut self.potentials,
-            &self.intake.settings.rows,
+            &self.code,
             &self.front,
             &self.claim[..self.len],
         );

@@ -1,6 +1,7 @@
 //! The access code of 14 message bits and 16 further bits. Its rows are this project's own.
 #![tactic(auto)]
 
+mod code;
 mod keys;
 mod lanes;
 mod laws;
@@ -10,6 +11,7 @@ mod table;
 pub mod walk;
 mod words;
 
+pub use code::AccessCode;
 pub use laws::{undamaged_arrives, words_differ};
 pub use searching::{RmReading, decode};
 pub use table::{Rows, own_rows};

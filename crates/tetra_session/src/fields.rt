@@ -6,7 +6,6 @@ ghost use Rattle.tetra_bits.specs.declared.soft.TheConstants.{SOFT_MAX};
 ghost use Rattle.tetra_channels.specs.Channels.{half};
 ghost use Rattle.tetra_channels.specs.Fields.{coded_reading};
 ghost use Rattle.tetra_diag.specs.Diagonal.{gathered};
-ghost use Rattle.tetra_scramble.specs.Key.{zero_key_bits};
 ghost use Rattle.tetra_settings.specs.Readings.{IsField, sizes};
 ghost use Rattle.tetra_settings.specs.declared.slots.Letter.TheVariants as Letter;
 ghost use Rattle.tetra_session.specs.Time.{MayBeDepth};
@@ -17,14 +16,14 @@ ghost use Rattle.tetra_session.specs.Spots.{FitsSpot, load_place, places_before_
 
 use crate::front::FrontField;
 use crate::gathering::Gathers;
-use crate::keys::Keys;
 use crate::spots::{Place, load_place, spot_into};
+use crate::tables::Tables;
 use arrayvec::ArrayVec;
 use tetra_bits::{Bits, Mark, Reading, Soft};
 use tetra_bursts::{Allowed, Train};
 use tetra_channels::{Aach, Bsch, Data24, Data48, Full, Half, Hu, Raw72};
-use tetra_rm::Rows;
-use tetra_scramble::{flip_soft, flip_soft_into};
+use tetra_rm::AccessCode;
+use tetra_scramble::{Key, flip_soft, flip_soft_into, zero_key};
 use tetra_settings::{Dir, Field, FieldName, Letter, Mode, Settings, SlotUse};
 use tetra_speech::{decode_half_into, decode_whole_into, half_front_into, whole_front_into};
 
@@ -114,29 +113,28 @@ fn is_good(mark: Mark) -> bool
 pub fn hear(
     dir: Dir,
     place: Place,
-    keys: &Keys,
+    key: &Key,
     soft: &[i16; 510],
     type5: &mut Soft,
     values: &mut Soft,
 )
     requires soft { AllSoft soft.now }
-    requires none { keys.now.none ≡ zero_key_bits }
     requires place { FitsSpot dir place }
-    ensures values { values.new ≡ place_values dir keys.now.colour soft.now place }
+    ensures values { values.new ≡ place_values dir key.now soft.now place }
     ensures size { length values.new ≡ (sizes place.name).values }
 {
     spot_into(dir, place.spot, soft, type5);
     match place.name {
-        FieldName::Aach => flip_soft_into(type5, &keys.colour, 1, values),
-        FieldName::Sync => Bsch::front_into(type5, &keys.none, values),
-        FieldName::Half => Half::front_into(type5, &keys.colour, values),
-        FieldName::Hu => Hu::front_into(type5, &keys.colour, values),
-        FieldName::Full => Full::front_into(type5, &keys.colour, values),
-        FieldName::D72 => flip_soft_into(type5, &keys.colour, 1, values),
-        FieldName::D48 => Data48::front_into(type5, &keys.colour, values),
-        FieldName::D24 => Data24::front_into(type5, &keys.colour, values),
-        FieldName::Whole => whole_front_into(&flip_soft(type5, &keys.colour, 1), values),
-        FieldName::Single => half_front_into(&flip_soft(type5, &keys.colour, 1), values),
+        FieldName::Aach => flip_soft_into(type5, key, 1, values),
+        FieldName::Sync => Bsch::front_into(type5, &zero_key(), values),
+        FieldName::Half => Half::front_into(type5, key, values),
+        FieldName::Hu => Hu::front_into(type5, key, values),
+        FieldName::Full => Full::front_into(type5, key, values),
+        FieldName::D72 => flip_soft_into(type5, key, 1, values),
+        FieldName::D48 => Data48::front_into(type5, key, values),
+        FieldName::D24 => Data24::front_into(type5, key, values),
+        FieldName::Whole => whole_front_into(&flip_soft(type5, key, 1), values),
+        FieldName::Single => half_front_into(&flip_soft(type5, key, 1), values),
     }
 }
 
@@ -147,18 +145,17 @@ pub fn gather<G: Gathers>(
     depth: usize,
     dir: Dir,
     load: Place,
-    keys: &Keys,
+    key: &Key,
     soft: &[i16; 510],
     work: &mut Work,
 )
     requires depth { MayBeDepth depth }
     requires soft { AllSoft soft.now }
-    requires none { keys.now.none ≡ zero_key_bits }
     requires place { FitsSpot dir load }
     ensures block { (words : List (List ℤ)) → G.Stands depth words lane.old → 1 ≤ depth → IsTrue (is_spread load.name)
-        → work.new.block ≡ gathered depth (words ++ place_values dir keys.now.colour soft.now load ∷ []) }
+        → work.new.block ≡ gathered depth (words ++ place_values dir key.now soft.now load ∷ []) }
     ensures stands { (words : List (List ℤ)) → G.Stands depth words lane.old
-        → IsTrue (is_spread load.name) → G.Stands depth (words ++ place_values dir keys.now.colour soft.now load ∷ []) lane.new }
+        → IsTrue (is_spread load.name) → G.Stands depth (words ++ place_values dir key.now soft.now load ∷ []) lane.new }
     ensures still { is_spread load.name ≡ false → lane.new ≡ lane.old }
     ensures size { IfSome work.new.block (λ values. length values ≡ 432) }
 {
@@ -166,7 +163,7 @@ pub fn gather<G: Gathers>(
         hear(
             dir,
             load,
-            keys,
+            key,
             soft,
             &mut work.scratch.type5,
             &mut work.scratch.values,
@@ -190,12 +187,12 @@ pub fn block_is_soft(block: &Option<Soft>)
 }
 
 /// What is read of the values of a field, written over a reading that is there, whose potentials serve again.
-pub fn read(name: FieldName, rows: &Rows, soft: &Soft, reading: &mut Reading)
+pub fn read(name: FieldName, code: &AccessCode, soft: &Soft, reading: &mut Reading)
     requires size { length soft.now ≡ (sizes name).values }
-    ensures { reading.new ≡ read_by (reader name) rows.now.0 soft.now }
+    ensures { reading.new ≡ read_by (reader name) code.now.0 soft.now }
 {
     match name {
-        FieldName::Aach => Aach::decode2_into(rows, soft, reading),
+        FieldName::Aach => Aach::decode2_into(code, soft, reading),
         FieldName::Sync => Bsch::decode3_into(soft, reading),
         FieldName::Half => Half::decode3_into(soft, reading),
         FieldName::Hu => Hu::decode3_into(soft, reading),
@@ -209,12 +206,12 @@ pub fn read(name: FieldName, rows: &Rows, soft: &Soft, reading: &mut Reading)
 }
 
 /// The reading of a block of protected data that is complete, or that is not yet, written over a reading that is there.
-fn read_block(name: FieldName, rows: &Rows, block: &Option<Soft>, reading: &mut Reading)
+fn read_block(name: FieldName, code: &AccessCode, block: &Option<Soft>, reading: &mut Reading)
     requires size { IfSome block.now (λ values. length values ≡ (sizes name).values) }
-    ensures { reading.new ≡ field_reading rows.now.0 name block.now }
+    ensures { reading.new ≡ field_reading code.now.0 name block.now }
 {
     match block {
-        Some(values) => read(name, rows, values, reading),
+        Some(values) => read(name, code, values, reading),
         None => {
             reading.mark = Mark::NotYet;
             reading.metric = 0;
@@ -225,18 +222,18 @@ fn read_block(name: FieldName, rows: &Rows, block: &Option<Soft>, reading: &mut 
 }
 
 /// What is read of a field of a front, by its values, written over a field that is there, whose potentials serve again:
-/// the first-least message with its metric, its mark and its certificate; where it has no values, not yet. The rows are
-/// those of the access code. So the fields of `hear_turn` can be read one by one, where there is no room for all of them.
+/// the first-least message with its metric, its mark and its certificate; where it has no values, not yet. The code is
+/// that of the access field. So the fields of `hear_turn` can be read one by one, where there is no room for all of them.
 #[tactic(auto, unfolding(crate::specs::Readers::read_field))]
-pub fn read_heard(rows: &Rows, heard: &FrontField, field: &mut Field)
+pub fn read_heard(code: &AccessCode, heard: &FrontField, field: &mut Field)
     requires { IsFrontField heard.now }
-    ensures value { field.new ≡ read_field rows.now.0 heard.now }
+    ensures value { field.new ≡ read_field code.now.0 heard.now }
     ensures formed { IsField field.new }
     ensures small { IsBounded (nat_abs SOFT_MAX) field.new }
 {
     block_is_soft(&heard.soft);
     field.name = heard.name;
-    read_block(heard.name, rows, &heard.soft, &mut field.reading);
+    read_block(heard.name, code, &heard.soft, &mut field.reading);
 }
 
 /// Whether the values of a field come over several slots: those of protected data.
@@ -261,23 +258,22 @@ fn is_spread(name: FieldName) -> bool
 fn hear_field(
     dir: Dir,
     place: Place,
-    keys: &Keys,
+    key: &Key,
     block: &Option<Soft>,
     soft: &[i16; 510],
     type5: &mut Soft,
     field: &mut FrontField,
 )
     requires soft { AllSoft soft.now }
-    requires none { keys.now.none ≡ zero_key_bits }
     requires place { FitsSpot dir place }
-    ensures { field.new ≡ field_heard dir keys.now.colour block.now soft.now place }
+    ensures { field.new ≡ field_heard dir key.now block.now soft.now place }
 {
     field.name = place.name;
     if is_spread(place.name) {
         field.soft = block.as_ref().map(Soft::copy);
     } else {
         let values = field.soft.get_or_insert_with(Soft::new);
-        hear(dir, place, keys, soft, type5, values);
+        hear(dir, place, key, soft, type5, values);
     }
 }
 
@@ -285,21 +281,20 @@ fn hear_field(
 pub fn hear_fields(
     dir: Dir,
     places: &[Place],
-    keys: &Keys,
+    key: &Key,
     block: &Option<Soft>,
     soft: &[i16; 510],
     type5: &mut Soft,
     fields: &mut [FrontField],
 )
     requires soft { AllSoft soft.now }
-    requires none { keys.now.none ≡ zero_key_bits }
     requires fit { All (FitsSpot dir) places.now }
     requires as_many { length places.now ≤ length fields.old }
-    ensures { fields.new ≡ map (field_heard dir keys.now.colour block.now soft.now) places.now
+    ensures { fields.new ≡ map (field_heard dir key.now block.now soft.now) places.now
         ++ drop (length places.now) fields.old }
 {
     for i in 0..places.len() {
-        hear_field(dir, places[i], keys, block, soft, type5, &mut fields[i]);
+        hear_field(dir, places[i], key, block, soft, type5, &mut fields[i]);
     }
 }
 
@@ -308,34 +303,34 @@ pub fn hear_fields(
 fn read_field(
     settings: &Settings,
     place: Place,
-    keys: &Keys,
+    tables: &Tables,
     block: &Option<Soft>,
     soft: &[i16; 510],
     scratch: &mut Scratch,
     field: &mut Field,
 )
+    requires access { tables.now.access ≡ settings.now.rows }
     requires soft { AllSoft soft.now }
-    requires none { keys.now.none ≡ zero_key_bits }
     requires place { FitsSpot settings.now.dir place }
     requires block { IfSome block.now (λ values. length values ≡ 432) }
-    ensures { field.new ≡ field_of_place settings.now keys.now.colour block.now soft.now place }
+    ensures { field.new ≡ field_of_place settings.now tables.now.key block.now soft.now place }
 {
     field.name = place.name;
     if is_spread(place.name) {
-        read_block(place.name, &settings.rows, block, &mut field.reading);
+        read_block(place.name, &tables.access, block, &mut field.reading);
         return;
     }
     hear(
         settings.dir,
         place,
-        keys,
+        &tables.key,
         soft,
         &mut scratch.type5,
         &mut scratch.values,
     );
     read(
         place.name,
-        &settings.rows,
+        &tables.access,
         &scratch.values,
         &mut field.reading,
     );
@@ -345,25 +340,25 @@ fn read_field(
 pub fn read_fields(
     settings: &Settings,
     places: &[Place],
-    keys: &Keys,
+    tables: &Tables,
     block: &Option<Soft>,
     soft: &[i16; 510],
     scratch: &mut Scratch,
     fields: &mut [Field],
 )
+    requires access { tables.now.access ≡ settings.now.rows }
     requires soft { AllSoft soft.now }
-    requires none { keys.now.none ≡ zero_key_bits }
     requires fit { All (FitsSpot settings.now.dir) places.now }
     requires block { IfSome block.now (λ values. length values ≡ 432) }
     requires as_many { length places.now ≤ length fields.old }
-    ensures { fields.new ≡ map (field_of_place settings.now keys.now.colour block.now soft.now) places.now
+    ensures { fields.new ≡ map (field_of_place settings.now tables.now.key block.now soft.now) places.now
         ++ drop (length places.now) fields.old }
 {
     for i in 0..places.len() {
         read_field(
             settings,
             places[i],
-            keys,
+            tables,
             block,
             soft,
             scratch,
@@ -385,29 +380,30 @@ pub fn load_by_reading(letter: Letter, mode: Mode, fields: &[Field]) -> Option<P
     }
 }
 
-/// Whether values of a half slot channel, in the order of type-3 bits, are read as Good; `reading` is what they are read
-/// as. Where there are none they are not.
-fn reads_good(values: &Option<Soft>, reading: &mut Reading) -> bool
+/// Whether values of a half slot channel, in the order of type-3 bits, are read as Good. It has room of its own for what is
+/// read, which only this call takes.
+#[inline(never)]
+fn half_reads_good(values: &Soft) -> bool
+    requires { length values.now ≡ 216 }
+    ensures { result ≡ is_good (coded_reading half values.now).mark }
+{
+    is_good(Half::decode3(values).mark)
+}
+
+/// Whether there are values of a half slot channel, and they are read as Good.
+fn reads_good(values: &Option<Soft>) -> bool
     requires { IfSome values.now (λ soft. length soft ≡ 216) }
     ensures { MatchOption values.now (result ≡ false) (λ soft. result ≡ is_good (coded_reading half soft).mark) }
 {
     match values {
-        Some(values) => {
-            Half::decode3_into(values, reading);
-            is_good(reading.mark)
-        }
+        Some(values) => half_reads_good(values),
         None => false,
     }
 }
 
 /// The place of the load of a slot, by the fields in front of it with their values. It rests on what is read of the last
-/// of them only where the first half of a slot of data is stolen; `reading` is then what is read of it.
-pub fn load_by_front(
-    letter: Letter,
-    mode: Mode,
-    fields: &[FrontField],
-    reading: &mut Reading,
-) -> Option<Place>
+/// of them only where the first half of a slot of data is stolen.
+pub fn load_by_front(letter: Letter, mode: Mode, fields: &[FrontField]) -> Option<Place>
     requires { letter ≡ Letter.P → (other : FrontField)
         → IfSome (slice_index_or fields.now (length fields.now - 1) other).soft (λ values. length values ≡ 216) }
     ensures { (dir : Dir) (key : List Bool) (soft : List ℤ)
@@ -418,7 +414,7 @@ pub fn load_by_front(
         return load_place(letter, mode, false);
     }
     match fields.last() {
-        Some(last) => load_place(letter, mode, reads_good(&last.soft, reading)),
+        Some(last) => load_place(letter, mode, reads_good(&last.soft)),
         None => load_place(letter, mode, false),
     }
 }
@@ -427,22 +423,21 @@ pub fn load_by_front(
 pub fn hear_load(
     dir: Dir,
     load: Option<Place>,
-    keys: &Keys,
+    key: &Key,
     block: &Option<Soft>,
     soft: &[i16; 510],
     type5: &mut Soft,
     fields: &mut [FrontField],
 )
     requires soft { AllSoft soft.now }
-    requires none { keys.now.none ≡ zero_key_bits }
     requires place { IfSome load (FitsSpot dir) }
     requires there { IfSome load (λ place. 1 ≤ length fields.old) }
     ensures { MatchOption load (fields.new ≡ fields.old) (λ place. fields.new
-        ≡ slice_set fields.old (length fields.old - 1) (field_heard dir keys.now.colour block.now soft.now place)) }
+        ≡ slice_set fields.old (length fields.old - 1) (field_heard dir key.now block.now soft.now place)) }
 {
     if let Some(load) = load {
         let last = fields.len() - 1;
-        hear_field(dir, load, keys, block, soft, type5, &mut fields[last]);
+        hear_field(dir, load, key, block, soft, type5, &mut fields[last]);
     }
 }
 
@@ -451,26 +446,26 @@ pub fn hear_load(
 pub fn read_load(
     settings: &Settings,
     load: Option<Place>,
-    keys: &Keys,
+    tables: &Tables,
     block: &Option<Soft>,
     soft: &[i16; 510],
     scratch: &mut Scratch,
     fields: &mut [Field],
 )
+    requires access { tables.now.access ≡ settings.now.rows }
     requires soft { AllSoft soft.now }
-    requires none { keys.now.none ≡ zero_key_bits }
     requires place { IfSome load (FitsSpot settings.now.dir) }
     requires block { IfSome block.now (λ values. length values ≡ 432) }
     requires there { IfSome load (λ place. 1 ≤ length fields.old) }
     ensures { MatchOption load (fields.new ≡ fields.old) (λ place. fields.new
-        ≡ slice_set fields.old (length fields.old - 1) (field_of_place settings.now keys.now.colour block.now soft.now place)) }
+        ≡ slice_set fields.old (length fields.old - 1) (field_of_place settings.now tables.now.key block.now soft.now place)) }
 {
     if let Some(load) = load {
         let last = fields.len() - 1;
         read_field(
             settings,
             load,
-            keys,
+            tables,
             block,
             soft,
             scratch,

@@ -4,7 +4,6 @@
 mod fields;
 mod front;
 mod gathering;
-mod keys;
 mod laws;
 mod receiver;
 mod receiving;
@@ -13,12 +12,12 @@ mod sending;
 mod spans;
 mod spots;
 mod spreading;
+mod tables;
 mod words;
 
 pub use fields::{Work, read_heard};
 pub use front::{Front, FrontField};
 pub use gathering::Gathers;
-pub use keys::Keys;
 pub use laws::{data_arrives, heard_apart, sent_apart, slots_arrive, written_slots_arrive};
 pub use receiver::Receiver;
 pub use receiving::{hear_turn, read_turn};
@@ -26,3 +25,4 @@ pub use sender::Sender;
 pub use sending::send_turn;
 pub use spans::depth;
 pub use spreading::Spreads;
+pub use tables::Tables;

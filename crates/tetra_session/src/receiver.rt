@@ -1,17 +1,16 @@
 // Receiving, slot by slot.
 ghost use Rattle.std.specs.Prelude.{◌≡◌, ◌<◌, ◌++◌, ◌∷◌, [], List, ℕ, ℤ, All};
 ghost use Rattle.tetra_bits.specs.Soft.{AllSoft, AllWithin};
-ghost use Rattle.tetra_scramble.specs.Key.{key_of, zero_key_bits};
+ghost use Rattle.tetra_scramble.specs.Key.{key_of};
 ghost use Rattle.tetra_settings.specs.Validity.{IsValid};
 ghost use Rattle.tetra_session.specs.lemmas.Valid.{IsValid-prop};
 
 use crate::fields::Work;
 use crate::front::Front;
 use crate::gathering::GatherLane;
-use crate::keys::Keys;
 use crate::receiving::{hear_turn, read_turn};
+use crate::tables::Tables;
 use arrayvec::ArrayVec;
-use tetra_bits::{Bits, Mark, Reading};
 use tetra_settings::{Settings, SlotReading, clock};
 
 /// A receiver of slots, four timeslots side by side. It stands for its settings and for the slots that it was given so
@@ -19,17 +18,15 @@ use tetra_settings::{Settings, SlotReading, clock};
 #[derive(Drop)]
 pub struct Receiver {
     settings: Settings,
-    keys: Keys,
+    tables: Tables,
     /// The number of slots so far, so that of the slot whose turn it is.
     turn: u32,
     /// What is kept of timeslots 1 to 4.
     lanes: [GatherLane; 4],
     work: Work,
-    /// What block 2 of the last slot of data whose first half was stolen was read as, by `front`.
-    half: Reading,
     ghost valid: { IsValid settings } by { IsValid-prop settings },
-    ghost keyed: { keys.colour ≡ key_of settings.colour },
-    ghost none_keyed: { keys.none ≡ zero_key_bits },
+    ghost keyed: { tables.key ≡ key_of settings.colour },
+    ghost access: { tables.access ≡ settings.rows },
 }
 
 impl Receiver {
@@ -45,7 +42,7 @@ impl Receiver {
         let [first, second, third, fourth] = settings.modes;
         Receiver {
             settings: *settings,
-            keys: Keys::new(&settings.colour),
+            tables: Tables::of(settings),
             turn: 0,
             lanes: [
                 GatherLane::new(first),
@@ -54,12 +51,6 @@ impl Receiver {
                 GatherLane::new(fourth),
             ],
             work: Work::new(),
-            half: Reading {
-                mark: Mark::Unchecked,
-                metric: 0,
-                bits: Bits::new(),
-                potentials: None,
-            },
         }
     }
 
@@ -100,11 +91,10 @@ impl Receiver {
         let lane = &mut self.lanes[usize::from(timeslot) - 1];
         hear_turn(
             &self.settings,
-            &self.keys,
+            &self.tables.key,
             turn,
             lane,
             &mut self.work,
-            &mut self.half,
             soft,
             front,
         );
@@ -150,7 +140,7 @@ impl Receiver {
         let lane = &mut self.lanes[usize::from(timeslot) - 1];
         read_turn(
             &self.settings,
-            &self.keys,
+            &self.tables,
             turn,
             lane,
             &mut self.work,

@@ -2,7 +2,7 @@
 ghost use Rattle.std.specs.Prelude.{◌≡◌, ◌≤◌, ◌++◌, ◌∷◌, [], List, ℕ, ℤ, IfSome, All, length, map, nat_abs};
 ghost use Rattle.tetra_bits.specs.Soft.{AllSoft, AllWithin};
 ghost use Rattle.tetra_bits.specs.declared.soft.TheConstants.{SOFT_MAX};
-ghost use Rattle.tetra_scramble.specs.Key.{key_of, zero_key_bits};
+ghost use Rattle.tetra_scramble.specs.Key.{key_of};
 ghost use Rattle.tetra_settings.specs.Readings.{IsWellFormed};
 ghost use Rattle.tetra_settings.specs.Slots.{mode_of, use_of};
 ghost use Rattle.tetra_settings.specs.Validity.{IsValid};
@@ -18,12 +18,12 @@ use crate::fields::{
 };
 use crate::front::{Front, FrontField};
 use crate::gathering::Gathers;
-use crate::keys::Keys;
 use crate::spans::depth;
 use crate::spots::{Place, has_load, is_downlink, places_before_load};
+use crate::tables::Tables;
 use arrayvec::ArrayVec;
-use tetra_bits::Reading;
 use tetra_bursts::{field_sizes, kind};
+use tetra_scramble::Key;
 use tetra_settings::{Field, Letter, Settings, SlotReading, mode_at, slot_use};
 
 /// The letter of slot `turn`, by the values of its 510 positions.
@@ -42,7 +42,7 @@ fn letter_heard(settings: &Settings, turn: u32, soft: &[i16; 510]) -> Letter
 /// protected data that is complete with it, where one is.
 fn take_slot<G: Gathers>(
     settings: &Settings,
-    keys: &Keys,
+    key: &Key,
     turn: u32,
     lane: &mut G,
     load: Option<Place>,
@@ -50,11 +50,10 @@ fn take_slot<G: Gathers>(
     work: &mut Work,
 )
     requires valid { IsValid settings.now }
-    requires keyed { keys.now.colour ≡ key_of settings.now.colour }
-    requires none { keys.now.none ≡ zero_key_bits }
+    requires keyed { key.now ≡ key_of settings.now.colour }
     requires soft { AllSoft soft.now }
     requires load { load ≡ load_place (letter_heard settings.now turn soft.now) (mode_of settings.now turn)
-        (second_stolen settings.now.dir keys.now.colour soft.now) }
+        (second_stolen settings.now.dir key.now soft.now) }
     ensures block { (history : List (List ℤ)) → turn ≡ length history → HeardStands G.Stands settings.now turn history lane.old
         → use_of settings.now (length history) ≡ SlotUse.Traffic → 1 ≤ depth (mode_of settings.now (length history))
         → work.new.block ≡ block_heard settings.now history soft.now }
@@ -68,7 +67,7 @@ fn take_slot<G: Gathers>(
             depth(mode_at(settings, turn)),
             settings.dir,
             load,
-            keys,
+            key,
             soft,
             work,
         ),
@@ -76,28 +75,25 @@ fn take_slot<G: Gathers>(
     }
 }
 
-/// Takes slot `turn`, of this letter, and writes its fields with their values over those that are there. `half` is filled
-/// on the way.
+/// Takes slot `turn`, of this letter, and writes its fields with their values over those that are there.
 fn hear_slot<G: Gathers>(
     settings: &Settings,
-    keys: &Keys,
+    key: &Key,
     turn: u32,
     lane: &mut G,
     letter: Letter,
     work: &mut Work,
-    half: &mut Reading,
     soft: &[i16; 510],
     fields: &mut ArrayVec<FrontField, 4>,
 )
     requires valid { IsValid settings.now }
-    requires keyed { keys.now.colour ≡ key_of settings.now.colour }
-    requires none { keys.now.none ≡ zero_key_bits }
+    requires keyed { key.now ≡ key_of settings.now.colour }
     requires soft { AllSoft soft.now }
     requires letter { letter ≡ letter_heard settings.now turn soft.now }
     ensures fields { fields.new.items
-        ≡ map (field_heard settings.now.dir keys.now.colour work.new.block soft.now)
+        ≡ map (field_heard settings.now.dir key.now work.new.block soft.now)
         (places_of settings.now.dir letter (mode_of settings.now turn)
-        (second_stolen settings.now.dir keys.now.colour soft.now)) }
+        (second_stolen settings.now.dir key.now soft.now)) }
     ensures block { (history : List (List ℤ)) → turn ≡ length history → HeardStands G.Stands settings.now turn history lane.old
         → use_of settings.now (length history) ≡ SlotUse.Traffic → 1 ≤ depth (mode_of settings.now (length history))
         → work.new.block ≡ block_heard settings.now history soft.now }
@@ -111,7 +107,7 @@ fn hear_slot<G: Gathers>(
     hear_fields(
         dir,
         &places,
-        keys,
+        key,
         &None,
         soft,
         &mut work.scratch.type5,
@@ -121,13 +117,12 @@ fn hear_slot<G: Gathers>(
         letter,
         mode_at(settings, turn),
         &fields[..places.len()],
-        half,
     );
-    take_slot(settings, keys, turn, lane, load, soft, work);
+    take_slot(settings, key, turn, lane, load, soft, work);
     hear_load(
         dir,
         load,
-        keys,
+        key,
         &work.block,
         soft,
         &mut work.scratch.type5,
@@ -138,7 +133,7 @@ fn hear_slot<G: Gathers>(
 /// Takes slot `turn`, of this letter, and writes its fields with what is read of them over those that are there.
 fn read_slot<G: Gathers>(
     settings: &Settings,
-    keys: &Keys,
+    tables: &Tables,
     turn: u32,
     lane: &mut G,
     letter: Letter,
@@ -147,14 +142,14 @@ fn read_slot<G: Gathers>(
     fields: &mut ArrayVec<Field, 4>,
 )
     requires valid { IsValid settings.now }
-    requires keyed { keys.now.colour ≡ key_of settings.now.colour }
-    requires none { keys.now.none ≡ zero_key_bits }
+    requires keyed { tables.now.key ≡ key_of settings.now.colour }
+    requires access { tables.now.access ≡ settings.now.rows }
     requires soft { AllSoft soft.now }
     requires letter { letter ≡ letter_heard settings.now turn soft.now }
     ensures fields { fields.new.items
-        ≡ map (field_of_place settings.now keys.now.colour work.new.block soft.now)
+        ≡ map (field_of_place settings.now tables.now.key work.new.block soft.now)
         (places_of settings.now.dir letter (mode_of settings.now turn)
-        (second_stolen settings.now.dir keys.now.colour soft.now)) }
+        (second_stolen settings.now.dir tables.now.key soft.now)) }
     ensures block { (history : List (List ℤ)) → turn ≡ length history → HeardStands G.Stands settings.now turn history lane.old
         → use_of settings.now (length history) ≡ SlotUse.Traffic → 1 ≤ depth (mode_of settings.now (length history))
         → work.new.block ≡ block_heard settings.now history soft.now }
@@ -167,18 +162,18 @@ fn read_slot<G: Gathers>(
     read_fields(
         settings,
         &places,
-        keys,
+        tables,
         &None,
         soft,
         &mut work.scratch,
         fields,
     );
     let load = load_by_reading(letter, mode_at(settings, turn), &fields[..places.len()]);
-    take_slot(settings, keys, turn, lane, load, soft, work);
+    take_slot(settings, &tables.key, turn, lane, load, soft, work);
     read_load(
         settings,
         load,
-        keys,
+        tables,
         &work.block,
         soft,
         &mut work.scratch,
@@ -187,21 +182,19 @@ fn read_slot<G: Gathers>(
 }
 
 /// The letter of slot `turn` and the soft values of its fields, from the values of its 510 positions, each from
-/// -`SOFT_MAX` to `SOFT_MAX`, written over a front that is there. `lane` is that of the slot's timeslot, and takes the slot;
-/// `half` is filled on the way. The settings are valid, and the keys are theirs.
+/// -`SOFT_MAX` to `SOFT_MAX`, written over a front that is there. `lane` is that of the slot's timeslot, and takes the slot.
+/// The settings are valid, and the key is theirs.
 pub fn hear_turn<G: Gathers>(
     settings: &Settings,
-    keys: &Keys,
+    key: &Key,
     turn: u32,
     lane: &mut G,
     work: &mut Work,
-    half: &mut Reading,
     soft: &[i16; 510],
     front: &mut Front,
 )
     requires valid { IsValid settings.now }
-    requires keyed { keys.now.colour ≡ key_of settings.now.colour }
-    requires none { keys.now.none ≡ zero_key_bits }
+    requires keyed { key.now ≡ key_of settings.now.colour }
     requires soft { AllSoft soft.now }
     ensures front { (history : List (List ℤ)) → turn ≡ length history → HeardStands G.Stands settings.now turn history lane.old
         → front.new ≡ slot_front settings.now history soft.now }
@@ -213,12 +206,11 @@ pub fn hear_turn<G: Gathers>(
     front.letter = letter.byte();
     hear_slot(
         settings,
-        keys,
+        key,
         turn,
         lane,
         letter,
         work,
-        half,
         soft,
         &mut front.fields,
     );
@@ -227,10 +219,10 @@ pub fn hear_turn<G: Gathers>(
 
 /// The reading of slot `turn`, from the values of its 510 positions, each from -`SOFT_MAX` to `SOFT_MAX`, written over a
 /// reading that is there, whose potentials serve again: of each field the first-least message with its metric and its
-/// mark. `lane` is that of the slot's timeslot, and takes the slot. The settings are valid, and the keys are theirs.
+/// mark. `lane` is that of the slot's timeslot, and takes the slot. The settings are valid, and the tables are theirs.
 pub fn read_turn<G: Gathers>(
     settings: &Settings,
-    keys: &Keys,
+    tables: &Tables,
     turn: u32,
     lane: &mut G,
     work: &mut Work,
@@ -238,8 +230,8 @@ pub fn read_turn<G: Gathers>(
     reading: &mut SlotReading,
 )
     requires valid { IsValid settings.now }
-    requires keyed { keys.now.colour ≡ key_of settings.now.colour }
-    requires none { keys.now.none ≡ zero_key_bits }
+    requires keyed { tables.now.key ≡ key_of settings.now.colour }
+    requires access { tables.now.access ≡ settings.now.rows }
     requires soft { AllSoft soft.now }
     ensures reading { (history : List (List ℤ)) → turn ≡ length history → HeardStands G.Stands settings.now turn history lane.old
         → reading.new ≡ slot_reading settings.now history soft.now }
@@ -254,7 +246,7 @@ pub fn read_turn<G: Gathers>(
     reading.letter = letter.byte();
     read_slot(
         settings,
-        keys,
+        tables,
         turn,
         lane,
         letter,

@@ -1,12 +1,12 @@
 // Sending, slot by slot.
 ghost use Rattle.std.specs.Prelude.{◌≡◌, ◌<◌, ◌++◌, ◌∷◌, [], List};
-ghost use Rattle.tetra_scramble.specs.Key.{key_of, zero_key_bits};
+ghost use Rattle.tetra_scramble.specs.Key.{key_of};
 ghost use Rattle.tetra_settings.specs.Validity.{IsValid};
 ghost use Rattle.tetra_session.specs.lemmas.Valid.{IsValid-prop};
 
-use crate::keys::Keys;
 use crate::sending::send_turn;
 use crate::spreading::SpreadLane;
+use tetra_scramble::{Key, key};
 use tetra_settings::{Settings, SlotBlocks, clock};
 
 /// A sender of slots, four timeslots side by side. It stands for its settings and for the blocks that it was given so
@@ -14,14 +14,13 @@ use tetra_settings::{Settings, SlotBlocks, clock};
 #[derive(Drop)]
 pub struct Sender {
     settings: Settings,
-    keys: Keys,
+    key: Key,
     /// The number of slots so far, so that of the slot whose turn it is.
     turn: u32,
     /// What is kept of timeslots 1 to 4.
     lanes: [SpreadLane; 4],
     ghost valid: { IsValid settings } by { IsValid-prop settings },
-    ghost keyed: { keys.colour ≡ key_of settings.colour },
-    ghost none_keyed: { keys.none ≡ zero_key_bits },
+    ghost keyed: { key ≡ key_of settings.colour },
 }
 
 impl Sender {
@@ -37,7 +36,7 @@ impl Sender {
         let [first, second, third, fourth] = settings.modes;
         Sender {
             settings: *settings,
-            keys: Keys::new(&settings.colour),
+            key: key(&settings.colour),
             turn: 0,
             lanes: [
                 SpreadLane::new(first),
@@ -62,6 +61,6 @@ impl Sender {
         self.turn += 1;
         let (timeslot, _, _) = clock(self.settings.at, turn);
         let lane = &mut self.lanes[usize::from(timeslot) - 1];
-        send_turn(&self.settings, &self.keys, turn, lane, blocks)
+        send_turn(&self.settings, &self.key, turn, lane, blocks)
     }
 }

@@ -4,35 +4,33 @@ ghost use Rattle.std.specs.Option.{option_map};
 ghost use Rattle.tetra_bursts.specs.Bursts.{control_up_slot};
 ghost use Rattle.tetra_bursts.specs.declared.table.Train.TheVariants.{P as PTrain};
 ghost use Rattle.tetra_channels.specs.Channels.{half, type5_bits};
-ghost use Rattle.tetra_scramble.specs.Key.{key_of, zero_key_bits};
+ghost use Rattle.tetra_scramble.specs.Key.{key_of};
 ghost use Rattle.tetra_settings.specs.Blocks.{Fits};
 ghost use Rattle.tetra_settings.specs.Validity.{IsValid};
 ghost use Rattle.tetra_settings.specs.declared.blocks.SlotBlocks.{SlotBlocks};
 ghost use Rattle.tetra_session.specs.Sent.{SentStands, Normal, access_of, slot_of, slot_written, subslot_bits, whole};
 
-use crate::keys::Keys;
 use crate::spreading::{Spreads, load_word, rest_word, take_load};
 use crate::words::{first_half, second_half};
 use tetra_bits::Bits;
 use tetra_bursts::{Train, control_up, normal_down, normal_up, sync_down};
 use tetra_channels::{Aach, Bsch, Full, Half, Hu};
 use tetra_rm::Rows;
-use tetra_scramble::Key;
+use tetra_scramble::{Key, zero_key};
 use tetra_settings::{Body, Dir, Settings, SlotBlocks, mode_at};
 
 /// Slot `turn` with these blocks, which fit it: 510 positions, 127 for bit 0, -127 for bit 1, 0 where the slot is silent
 /// (EN 300 392-2 clauses 8 and 9). `lane` is that of the slot's timeslot, and takes its load. The settings are valid, and
-/// the keys are theirs.
+/// the key is theirs.
 pub fn send_turn<S: Spreads>(
     settings: &Settings,
-    keys: &Keys,
+    key: &Key,
     turn: u32,
     lane: &mut S,
     blocks: &SlotBlocks,
 ) -> [i8; 510]
     requires valid { IsValid settings.now }
-    requires keyed { keys.now.colour ≡ key_of settings.now.colour }
-    requires none { keys.now.none ≡ zero_key_bits }
+    requires keyed { key.now ≡ key_of settings.now.colour }
     requires fits { Fits settings.now turn blocks.now }
     ensures slot { (history : List SlotBlocks) → turn ≡ length history → SentStands S.Stands settings.now turn history lane.old
         → result ≡ slot_written settings.now history blocks.now }
@@ -41,13 +39,12 @@ pub fn send_turn<S: Spreads>(
 {
     let dir = settings.dir;
     let mode = mode_at(settings, turn);
-    let key = &keys.colour;
     let access = access(&settings.rows, key, blocks.aach);
     match &blocks.body {
         Body::Full { block } => whole(dir, Train::N, &access, &Full::encode(block, key)),
         Body::Halves { first, second } => halves(dir, key, &access, first, second),
         Body::Sync { sync, half } => sync_down(
-            &Bsch::encode(sync, &keys.none),
+            &Bsch::encode(sync, &zero_key()),
             &access,
             &Half::encode(half, key),
         ),

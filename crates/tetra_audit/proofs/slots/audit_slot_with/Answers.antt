@@ -23,10 +23,10 @@ unfolding claim_length
 bounds-claim-0 c = omega arith
 
 pub returns-then-claim-front : goal.returns-then-claim-front
-returns-then-claim-front c = sym (other_letter c.args.rows.now c.args.front.now c.args.claim.now c.if-claim-front.true)
+returns-then-claim-front c = sym (other_letter c.args.code.now c.args.front.now c.args.claim.now c.if-claim-front.true)
 
 pub loop-i-init : goal.loop-i-init
-loop-i-init c = record { at_is = refl; left = first_field c.args.rows.now c.args.front.now c.args.claim.now c.if-claim-front.false }
+loop-i-init c = record { at_is = refl; left = first_field c.args.code.now c.args.front.now c.args.claim.now c.if-claim-front.false }
 
 pub overflow_add-end : goal.overflow_add-end
 overflow_add-end c = record { fits = omega (arith, ends c, c.requires.size, claim_at_most c.args.front.now c.requires.front) }
@@ -37,7 +37,7 @@ slice_bounds-field_fault-end c = let fits = ends c in search rules
 pub returns-in-Some : goal.returns-in-Some
 returns-in-Some c =
     let at = (goal.at.returns-in-Some c).After-field_len in
-    sym (c.loop-i.invariant.left ∙ stops c.args.rows.now.0 c.args.front.now.fields.items c.args.claim.now c.loop-i.i c.loop-i.at (c.loop-i.at + c.field_len.result) c.field-item.result
+    sym (c.loop-i.invariant.left ∙ stops c.args.code.now.0 c.args.front.now.fields.items c.args.claim.now c.loop-i.i c.loop-i.at (c.loop-i.at + c.field_len.result) c.field-item.result
     (inside at) (item at) (ap (λ n. c.loop-i.at + n) c.field_len.ensures.bytes) c.in-Some.why c.in-Some.ensures)
 
 pub loop-i-preserved : goal.loop-i-preserved
@@ -46,9 +46,9 @@ loop-i-preserved c =
     let there : field_length c.field-item.result ≡ field_length (get_or c.args.front.now.fields.items c.loop-i.i c.field-item.result) = ap field_length (item at) in
     record {
       at_is = omega (arith, c.loop-i.invariant.at_is, c.field_len.ensures.bytes, there, sum_by_more field_length c.args.front.now.fields.items c.loop-i.i c.field-item.result (inside at));
-      left = c.loop-i.invariant.left ∙ goes_on c.args.rows.now.0 c.args.front.now.fields.items c.args.claim.now c.loop-i.i c.loop-i.at (c.loop-i.at + c.field_len.result) c.field-item.result
+      left = c.loop-i.invariant.left ∙ goes_on c.args.code.now.0 c.args.front.now.fields.items c.args.claim.now c.loop-i.i c.loop-i.at (c.loop-i.at + c.field_len.result) c.field-item.result
           (inside at) (item at) (ap (λ n. c.loop-i.at + n) c.field_len.ensures.bytes) c.in_default.ensures;
     }
 
 pub returns : goal.returns
-returns c = sym (c.loop-i.invariant.left ∙ none_left c.args.rows.now.0 c.args.front.now.fields.items c.args.claim.now c.loop-i.i c.loop-i.at (omega (arith, ap length c.as_slice-field-items.ensures.value)))
+returns c = sym (c.loop-i.invariant.left ∙ none_left c.args.code.now.0 c.args.front.now.fields.items c.args.claim.now c.loop-i.i c.loop-i.at (omega (arith, ap length c.as_slice-field-items.ensures.value)))

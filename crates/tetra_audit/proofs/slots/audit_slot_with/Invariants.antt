@@ -7,5 +7,5 @@ abbrev pub invariant-loop-i : goal.invariant-loop-i
 invariant-loop-i l =
     record {
       at_is : l.at ≡ 1 + sum_by field_length (take l.i l.front.fields.items);
-      left : slot_verdict l.rows l.front l.claim ≡ fields_verdict l.rows.0 l.i (drop l.i l.front.fields.items) (drop l.at l.claim);
+      left : slot_verdict l.code l.front l.claim ≡ fields_verdict l.code.0 l.i (drop l.i l.front.fields.items) (drop l.at l.claim);
     }

@@ -11,7 +11,7 @@ returns-in-Ok-clause-reading c = λ done settings history h.
     subst (λ reading. ArePut reading c.put_front.new.out)
     (front_read c.in-Ok.settings settings history (soft_values c.args.slot.now) c.hear_next.new.front (c.in-Ok.ensures.value ∙ h.same)
     (c.in-Ok.ensures.front refl settings history h))
-    c.put_front.ensures
+    (rw c.of.ensures at c.put_front.ensures)
 
 pub returns-in-Ok-clause-stands : goal.returns-in-Ok-clause-stands
 returns-in-Ok-clause-stands c = λ done. c.in-Ok.ensures.stands refl

@@ -45,7 +45,7 @@ returns-clause-verdict c = λ settings history h.
     let within : at < 4 = c.lane_at-at.ensures.within in
     let four : length receiver.lanes ≡ 4 = omega arith in
     let front : c.hear.new.front ≡ slot_front found history (soft_values c.args.slot.now) = c.hear.ensures.front history is.turn (lane_now found history receiver at is here within four _) in
-    rw (← same, ← front) c.audit.ensures
+    rw (← same, ← front, ← c.of.ensures) c.audit.ensures
 
 pub returns-clause-stands : goal.returns-clause-stands
 returns-clause-stands c = λ done settings history h.

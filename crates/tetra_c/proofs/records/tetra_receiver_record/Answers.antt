@@ -10,7 +10,7 @@ use Rattle.tetra_c.proofs.records.tetra_receiver_record.Goals as goal
 pub returns-in-Ok-clause-bytes : goal.returns-in-Ok-clause-bytes
 returns-in-Ok-clause-bytes c = λ done settings history h.
     let soft = soft_values c.args.slot.now in
-    c.put_record.ensures
+    (rw c.of.ensures at c.put_record.ensures)
     ∙ ap (reading_spelling c.form_of.result)
     (front_read c.in-Ok.settings settings history soft c.hear_next.new.front (c.in-Ok.ensures.value ∙ h.same)
     (c.in-Ok.ensures.front refl settings history h))

@@ -5,6 +5,6 @@ use Rattle.tetra_session.proofs.fields.read_fields.Given as goal
 abbrev pub invariant-loop-i : goal.invariant-loop-i
 invariant-loop-i l = record {
   size : length l.fields ≡ length l.initial.fields;
-  so_far : take l.i l.fields ≡ map (field_of_place l.settings l.keys.colour l.block l.soft) (take l.i l.places);
+  so_far : take l.i l.fields ≡ map (field_of_place l.settings l.tables.key l.block l.soft) (take l.i l.places);
   behind : drop l.i l.fields ≡ drop l.i l.initial.fields;
 }

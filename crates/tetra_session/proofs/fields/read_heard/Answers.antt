@@ -21,9 +21,9 @@ returns-clause-value c = rw c.read_block.ensures refl
 
 pub returns-clause-formed : goal.returns-clause-formed
 returns-clause-formed c =
-    rw c.read_block.ensures (reading_formed_of c.args.heard.now.name c.args.rows.now.0 c.args.heard.now.soft c.requires.soft)
+    rw c.read_block.ensures (reading_formed_of c.args.heard.now.name c.args.code.now.0 c.args.heard.now.soft c.requires.soft)
 
 pub returns-clause-small : goal.returns-clause-small
 returns-clause-small c =
     rw c.read_block.ensures
-    (reading_bounded_of (nat_abs SOFT_MAX) c.args.heard.now.name c.args.rows.now.0 c.args.heard.now.soft c.requires.soft c.block_is_soft.ensures)
+    (reading_bounded_of (nat_abs SOFT_MAX) c.args.heard.now.name c.args.code.now.0 c.args.heard.now.soft c.requires.soft c.block_is_soft.ensures)

@@ -23,7 +23,7 @@ hear_fields-requires-clause-fit g c =
 pub load_by_front-load-requires : goal.load_by_front-load-requires
 load_by_front-load-requires g c =
     let settings = c.args.settings.now in
-    let key = c.args.keys.now.colour in
+    let key = c.args.key.now in
     let soft = c.args.soft.now in
     let places = c.places_before_load-places.result.items in
     let bare = field_heard settings.dir key None soft in
@@ -41,7 +41,7 @@ load_by_front-load-requires g c =
 pub hear_load-requires-clause-place : goal.hear_load-requires-clause-place
 hear_load-requires-clause-place g c =
     let settings = c.args.settings.now in
-    let key = c.args.keys.now.colour in
+    let key = c.args.key.now in
     let turn = c.args.turn in
     let soft = c.args.soft.now in
     let places = c.places_before_load-places.result.items in
@@ -64,7 +64,7 @@ hear_load-requires-clause-place g c =
 pub returns-clause-fields : goal.returns-clause-fields
 returns-clause-fields g c =
     let settings = c.args.settings.now in
-    let key = c.args.keys.now.colour in
+    let key = c.args.key.now in
     let turn = c.args.turn in
     let soft = c.args.soft.now in
     let places = c.places_before_load-places.result.items in

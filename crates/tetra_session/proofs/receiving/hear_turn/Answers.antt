@@ -10,7 +10,7 @@ pub returns-clause-front : goal.returns-clause-front
 returns-clause-front g c = λ history turn h.
     let settings = c.args.settings.now in
     let soft = c.args.soft.now in
-    let key = c.args.keys.now.colour in
+    let key = c.args.key.now in
     let letter = c.letter_heard-letter.result in
     let places = places_of settings.dir letter (mode_of settings c.args.turn) (second_stolen settings.dir key soft) in
     front_is settings history soft c.args.turn c.byte-front.result letter key c.hear_slot.new.work.block places
@@ -21,7 +21,7 @@ pub returns-clause-well_formed : goal.returns-clause-well_formed
 returns-clause-well_formed g c =
     let settings = c.args.settings.now in
     let soft = c.args.soft.now in
-    let key = c.args.keys.now.colour in
+    let key = c.args.key.now in
     let letter = c.letter_heard-letter.result in
     let stolen = second_stolen settings.dir key soft in
     let places = places_of settings.dir letter (mode_of settings c.args.turn) stolen in

@@ -22,7 +22,7 @@ read_fields-requires-clause-fit g c =
 pub read_load-requires-clause-place : goal.read_load-requires-clause-place
 read_load-requires-clause-place g c =
     let settings = c.args.settings.now in
-    let key = c.args.keys.now.colour in
+    let key = c.args.tables.now.key in
     let turn = c.args.turn in
     let soft = c.args.soft.now in
     let places = c.places_before_load-places.result.items in
@@ -45,7 +45,7 @@ read_load-requires-clause-place g c =
 pub returns-clause-fields : goal.returns-clause-fields
 returns-clause-fields g c =
     let settings = c.args.settings.now in
-    let key = c.args.keys.now.colour in
+    let key = c.args.tables.now.key in
     let turn = c.args.turn in
     let soft = c.args.soft.now in
     let places = c.places_before_load-places.result.items in

@@ -11,7 +11,7 @@ pub returns-clause-reading : goal.returns-clause-reading
 returns-clause-reading g c = λ history turn h.
     let settings = c.args.settings.now in
     let soft = c.args.soft.now in
-    let key = c.args.keys.now.colour in
+    let key = c.args.tables.now.key in
     let letter = c.letter_heard-letter.result in
     let places = places_of settings.dir letter (mode_of settings c.args.turn) (second_stolen settings.dir key soft) in
     reading_is settings history soft c.args.turn c.byte-reading.result letter key c.read_slot.new.work.block places
@@ -22,7 +22,7 @@ pub returns-clause-well_formed : goal.returns-clause-well_formed
 returns-clause-well_formed g c =
     let settings = c.args.settings.now in
     let soft = c.args.soft.now in
-    let key = c.args.keys.now.colour in
+    let key = c.args.tables.now.key in
     let letter = c.letter_heard-letter.result in
     let stolen = second_stolen settings.dir key soft in
     let places = places_of settings.dir letter (mode_of settings c.args.turn) stolen in
@@ -35,7 +35,7 @@ pub returns-clause-small : goal.returns-clause-small
 returns-clause-small g c =
     let settings = c.args.settings.now in
     let soft = c.args.soft.now in
-    let key = c.args.keys.now.colour in
+    let key = c.args.tables.now.key in
     let letter = c.letter_heard-letter.result in
     let stolen = second_stolen settings.dir key soft in
     let places = places_of settings.dir letter (mode_of settings c.args.turn) stolen in
@@ -49,7 +49,7 @@ pub returns-clause-bounded : goal.returns-clause-bounded
 returns-clause-bounded g c = λ history turn h top earlier last.
     let settings = c.args.settings.now in
     let soft = c.args.soft.now in
-    let key = c.args.keys.now.colour in
+    let key = c.args.tables.now.key in
     let letter = c.letter_heard-letter.result in
     let stolen = second_stolen settings.dir key soft in
     let places = places_of settings.dir letter (mode_of settings c.args.turn) stolen in

@@ -23,7 +23,7 @@ whole-requires-in-Traffic-clause-access g c = λ down.
 pub returns-in-Full-clause-slot : goal.returns-in-Full-clause-slot
 returns-in-Full-clause-slot g c = λ history turn h.
     let settings = c.args.settings.now in
-    let key = c.args.keys.now.colour in
+    let key = c.args.key.now in
     let mode = mode_of settings c.args.turn in
     let before = blocks_sent settings (timeslot_of settings.at c.args.turn) history in
     c.whole.ensures ∙ slot_is settings history c.args.blocks.now c.args.turn key c.access-access.result turn c.requires.keyed c.access-access.ensures.bits
@@ -32,22 +32,22 @@ returns-in-Full-clause-slot g c = λ history turn h.
 pub returns-in-Halves-clause-slot : goal.returns-in-Halves-clause-slot
 returns-in-Halves-clause-slot g c = λ history turn h.
     let settings = c.args.settings.now in
-    let key = c.args.keys.now.colour in
+    let key = c.args.key.now in
     c.halves.ensures ∙ slot_is settings history c.args.blocks.now c.args.turn key c.access-access.result turn c.requires.keyed c.access-access.ensures.bits
     (Normal P (type5_bits half key c.in-Halves.first) (type5_bits half key c.in-Halves.second)) (rw c.in-Halves.is refl)
 
 pub returns-in-Sync-clause-slot : goal.returns-in-Sync-clause-slot
 returns-in-Sync-clause-slot g c = λ history turn h.
     let settings = c.args.settings.now in
-    let key = c.args.keys.now.colour in
+    let key = c.args.key.now in
     c.sync_down.ensures.value ∙ sym (slot_of_sync settings.dir c.access-access.result c.encode-in-Sync.result c.encode-in-Sync-2.result)
     ∙ slot_is settings history c.args.blocks.now c.args.turn key c.access-access.result turn c.requires.keyed c.access-access.ensures.bits
-    (Synchronisation c.encode-in-Sync.result c.encode-in-Sync-2.result) (rw (c.in-Sync.is, c.encode-in-Sync.ensures.bits, c.encode-in-Sync-2.ensures.bits, c.requires.none) refl)
+    (Synchronisation c.encode-in-Sync.result c.encode-in-Sync-2.result) (rw (c.in-Sync.is, c.encode-in-Sync.ensures.bits, c.encode-in-Sync-2.ensures.bits, c.zero_key.ensures.value) refl)
 
 pub returns-in-Traffic-clause-slot : goal.returns-in-Traffic-clause-slot
 returns-in-Traffic-clause-slot g c = λ history turn h.
     let settings = c.args.settings.now in
-    let key = c.args.keys.now.colour in
+    let key = c.args.key.now in
     let mode = c.mode_at-mode.result in
     let load = c.in-Traffic.load in
     let before = blocks_sent settings (timeslot_of settings.at c.args.turn) history in
@@ -63,7 +63,7 @@ copied (Some bits) = refl
 pub returns-in-Control-clause-slot : goal.returns-in-Control-clause-slot
 returns-in-Control-clause-slot g c = λ history turn h.
     let settings = c.args.settings.now in
-    let key = c.args.keys.now.colour in
+    let key = c.args.key.now in
     let first = subslot_bits key (option_map (λ bits. bits.now) c.as_ref.result) in
     let second = subslot_bits key (option_map (λ bits. bits.now) c.as_ref-in-Control.result) in
     let a : option_map (λ bits. bits.now) c.as_ref.result ≡ c.in-Control.first = copied c.as_ref.result ∙ c.as_ref.ensures.value in
@@ -102,7 +102,7 @@ returns-in-Control-clause-stands g c = λ history turn h.
 pub returns-in-Stolen-clause-slot : goal.returns-in-Stolen-clause-slot
 returns-in-Stolen-clause-slot g c = λ history turn h.
     let settings = c.args.settings.now in
-    let key = c.args.keys.now.colour in
+    let key = c.args.key.now in
     let load = c.in-Stolen.load in
     let before = blocks_sent settings (timeslot_of settings.at c.args.turn) history in
     let kept = lane_now g.S.Spreads.Stands settings c.args.turn history c.args.blocks.now c.args.lane.now turn h c.mode_at-mode.result c.mode_at-mode.ensures.mode in
@@ -125,7 +125,7 @@ rest_word-rest-requires-clause-carries g c =
 pub returns-in-Both-clause-slot : goal.returns-in-Both-clause-slot
 returns-in-Both-clause-slot g c = λ history turn h.
     let settings = c.args.settings.now in
-    let key = c.args.keys.now.colour in
+    let key = c.args.key.now in
     c.halves-in-Both.ensures ∙ slot_is settings history c.args.blocks.now c.args.turn key c.access-access.result turn c.requires.keyed c.access-access.ensures.bits
     (Normal P (type5_bits half key c.in-Both.first) (type5_bits half key c.in-Both.second)) (rw c.in-Both.is refl)
 

@@ -2,6 +2,7 @@ use Rattle.std.proofs.Common.{rules, arith, ◌≡◌, ◌∙◌, ap, sym, subst
 use Rattle.std.proofs.KnownBytes.{Consumes-trans}
 use Rattle.tetra_io.specs.Filling.{TakesFewer}
 use Rattle.tetra_session.specs.Heard.{ReceiverStands}
+use Rattle.tetra_settings.specs.declared.types.Settings.{Settings}
 use Rattle.tetra_engine.specs.Auditing.{auditing, slots_of, front_at, refused_slots}
 use Rattle.tetra_engine.specs.Intake.{IntakeStands}
 use Rattle.tetra_engine.specs.Refusals.{Counts}
@@ -47,6 +48,7 @@ returns-in-Whole-clause-gives g c xs stands slot =
     let count = counts_number c.args.self.now.refusals _ stands.refusals in (
       (c.next.new.self.bytes, c.fill.new.buf),
       record {
+        code = stands.code ∙ ap (λ (s : Settings). s.rows) (sym same);
         intake = record { valid = next.valid; receiver = subst (λ v. ReceiverStands c.next.new.self.settings (slots_of xs ++ v ∷ []) c.front_into.new.self) holds.values taken };
         refusals = subst (λ s. Counts c.args.self.now.refusals (refused_slots s [] xs)) (sym same) stands.refusals;
         counted = omega (arith, few, count, slot);

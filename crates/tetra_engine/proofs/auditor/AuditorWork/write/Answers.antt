@@ -7,6 +7,7 @@ use Rattle.tetra_engine.proofs.auditor.AuditorWork.write.Goals as goal
 
 pub returns-clause-stands : goal.returns-clause-stands
 returns-clause-stands g c xs x holds = record {
+  code = holds.code;
   intake = subst (IntakeStands c.args.self.now.intake) (sym (slots_more xs x)) holds.intake;
   refusals =
       let settings = c.args.self.now.intake.settings in

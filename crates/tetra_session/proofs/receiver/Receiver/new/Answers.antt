@@ -10,5 +10,5 @@ returns c = record {
   same = refl;
   turn = refl;
   timeslots = four_none GatherLaneStands (word_heard c.args.settings.now.dir (key_of c.args.settings.now.colour)) Still c.args.settings.now
-      _ _ _ _ c.new-2.ensures c.new-3.ensures c.new-4.ensures c.new-5.ensures;
+      _ _ _ _ c.new.ensures c.new-2.ensures c.new-3.ensures c.new-4.ensures;
 }

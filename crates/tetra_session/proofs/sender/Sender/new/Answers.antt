@@ -8,5 +8,5 @@ pub returns : goal.returns
 returns c = record {
   same = refl;
   turn = refl;
-  timeslots = four_none SpreadLaneStands block_sent Still c.args.settings.now _ _ _ _ c.new-2.ensures c.new-3.ensures c.new-4.ensures c.new-5.ensures;
+  timeslots = four_none SpreadLaneStands block_sent Still c.args.settings.now _ _ _ _ c.new.ensures c.new-2.ensures c.new-3.ensures c.new-4.ensures;
 }

@@ -29,6 +29,17 @@ abbrev pub IsPartSums : List ℕ → ℕ → ℕ → List ℕ → Type 0
 IsPartSums rows from n sums =
     (v : ℕ) → v < 2 ^ n → slice_index sums v ≡ rows_sum rows (digits 14 (v * 2 ^ (14 - (from + n)))) 14
 
+-- a table of these sums, each of which has 16 bits
+pub record AreSums (rows : List ℕ) (from n : ℕ) (table : List ℕ) : Type 0 where
+  pub sums : IsPartSums rows from n table
+  pub fit : (v : ℕ) → v < 2 ^ n → slice_index table v < 2 ^ 16
+
+-- the tables that an access code keeps: the sums of the five bits in front, of the six in the middle and of the last three
+pub record AreTables (rows in_front in_middle at_end : List ℕ) : Type 0 where
+  pub front : AreSums rows 0 5 in_front
+  pub middle : AreSums rows 5 6 in_middle
+  pub last : AreSums rows 11 3 at_end
+
 -- what all parts of n bits add to a key, where the last bit stands for unit
 abbrev pub IsPartKeys : List ℤ → ℕ → ℕ → ℕ → List ℕ → Type 0
 IsPartKeys soft from n unit keys =

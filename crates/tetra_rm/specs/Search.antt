@@ -86,7 +86,8 @@ unfoldable pub key_in_middle : List (List ℕ) → List (List ℕ) → Part → 
 key_in_middle first second middle sum j m =
     key_behind first second (bit_xor sum (slice_index middle.sums m)) j + slice_index middle.keys m
 
--- the same and what the five bits in front add to it, where the eleven bits in front and in the middle are those of u
-unfoldable pub key_in_front : List (List ℕ) → List (List ℕ) → Part → Part → ℕ → ℕ → ℕ
-key_in_front first second front middle j u =
-    key_in_middle first second middle (slice_index front.sums (u / 64)) j (u % 64) + slice_index front.keys (u / 64)
+-- the key of a message that is given as a number, by its five bits in front, the six in the middle and the last three
+unfoldable pub key_by_tables : List (List ℕ) → List (List ℕ) → Part → Part → Part → ℕ → ℕ
+key_by_tables first second front middle last n =
+    key_in_middle first second middle (slice_index front.sums (n / 512)) (n % 8) (n / 8 % 64) + slice_index front.keys (n / 512)
+    + slice_index last.keys (n % 8)

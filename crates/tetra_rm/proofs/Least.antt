@@ -81,3 +81,36 @@ least_by_lanes f g n x c y same lanes l =
           let b : y ≡ x l.place + c l.place = l.reached in
           omega arith;
     }
+
+-- more values behind the others, none of which is less
+pub least_kept : (f : ℕ → ℕ) (n m x : ℕ) → ((k : ℕ) → k < m → x ≤ f (n + k)) → IsLeastBelow f n x → IsLeastBelow f (n + m) x
+least_kept f n m x more l = record {
+  least = λ k h. elim (cases_lt k n) [
+    | inl lower ↦ l.least k lower
+    | inr upper ↦
+        let place : n + (k - n) ≡ k = omega arith in
+        let most : x ≤ f (n + (k - n)) = more (k - n) (omega arith) in
+        let at : f (n + (k - n)) ≡ f k = ap f place in
+        omega arith
+  ];
+  place = l.place;
+  there = let a : l.place < n = l.there in omega arith;
+  reached = l.reached;
+}
+
+-- the same values, of another function
+pub least_of_same : (f g : ℕ → ℕ) (n x : ℕ) → ((k : ℕ) → k < n → f k ≡ g k) → IsLeastBelow g n x → IsLeastBelow f n x
+least_of_same f g n x same l = least_moved f g n 0 x x (λ k h. let here : f k ≡ g k = same k h in omega arith) (omega arith) l
+
+-- the values in turn from a place on, and those before it behind them
+pub least_turned : (f : ℕ → ℕ) (start x : ℕ) → start ≤ 16384 → IsLeastBelow (λ k. f ((start + k) % 16384)) 16384 x → IsLeastBelow f 16384 x
+least_turned f start x h l = record {
+  least = λ k low.
+      let most : x ≤ f ((start + (k + (16384 - start)) % 16384) % 16384) = l.least ((k + (16384 - start)) % 16384) (omega arith) in
+      let place : (start + (k + (16384 - start)) % 16384) % 16384 ≡ k = omega arith in
+      let at : f ((start + (k + (16384 - start)) % 16384) % 16384) ≡ f k = ap f place in
+      omega arith;
+  place = (start + l.place) % 16384;
+  there = omega arith;
+  reached = l.reached;
+}

@@ -29,6 +29,17 @@ abbrev pub IsPartSums : List ℕ → ℕ → ℕ → List ℕ → Type 0
 IsPartSums rows from n sums =
     (v : ℕ) → v < 2 ^ n → slice_index sums v ≡ rows_sum rows (digits 14 (v * 2 ^ (14 - (from + n)))) 14
 
+-- a table of these sums, each of which has 16 bits
+pub record AreSums (rows : List ℕ) (from n : ℕ) (table : List ℕ) : Type 0 where
+  pub sums : IsPartSums rows from n table
+  pub fit : (v : ℕ) → v < 2 ^ n → slice_index table v < 2 ^ 16
+
+-- the tables that an access code keeps: the sums of the five bits in front, of the six in the middle and of the last three
+pub record AreTables (rows in_front in_middle at_end : List ℕ) : Type 0 where
+  pub front : AreSums rows 0 5 in_front
+  pub middle : AreSums rows 5 6 in_middle
+  pub last : AreSums rows 11 3 at_end
+
 -- what all parts of n bits add to a key, where the last bit stands for unit
 abbrev pub IsPartKeys : List ℤ → ℕ → ℕ → ℕ → List ℕ → Type 0
 IsPartKeys soft from n unit keys =
@@ -75,7 +86,8 @@ unfoldable pub key_in_middle : List (List ℕ) → List (List ℕ) → Part → 
 key_in_middle first second middle sum j m =
     key_behind first second (bit_xor sum (slice_index middle.sums m)) j + slice_index middle.keys m
 
--- the same and what the five bits in front add to it, where the eleven bits in front and in the middle are those of u
-unfoldable pub key_in_front : List (List ℕ) → List (List ℕ) → Part → Part → ℕ → ℕ → ℕ
-key_in_front first second front middle j u =
-    key_in_middle first second middle (slice_index front.sums (u / 64)) j (u % 64) + slice_index front.keys (u / 64)
+-- the key of a message that is given as a number, by its five bits in front, the six in the middle and the last three
+unfoldable pub key_by_tables : List (List ℕ) → List (List ℕ) → Part → Part → Part → ℕ → ℕ
+key_by_tables first second front middle last n =
+    key_in_middle first second middle (slice_index front.sums (n / 512)) (n % 8) (n / 8 % 64) + slice_index front.keys (n / 512)
+    + slice_index last.keys (n % 8)

@@ -1,7 +1,7 @@
 //! The access code of 14 message bits and 16 further bits. Its rows are this project's own.
 #![tactic(auto)]
 
-mod code;
+mod access;
 mod keys;
 mod lanes;
 mod laws;
@@ -11,9 +11,9 @@ mod table;
 pub mod walk;
 mod words;
 
-pub use code::AccessCode;
+pub use access::{AccessCode, decode};
 pub use laws::{undamaged_arrives, words_differ};
-pub use searching::{RmReading, decode};
+pub use searching::RmReading;
 pub use table::{Rows, own_rows};
 pub use words::{encode, message_bits};
 

@@ -1,15 +1,10 @@
 // The search for the first-least message, eight messages side by side: those that differ in their last three bits alone.
-ghost use Rattle.std.specs.Prelude.{◌≡◌, ◌<◌, ◌≤◌, ◌+◌, ◌-◌, ◌*◌, ◌^◌, ℕ, length, slice_index};
-ghost use Rattle.tetra_bits.specs.Digits.{digits};
-ghost use Rattle.tetra_bits.specs.Least.{FirstLeast};
+ghost use Rattle.std.specs.Prelude.{◌≡◌, ◌<◌, ◌≤◌, ◌+◌, ◌-◌, ◌*◌, ◌^◌, ℕ, List, length, slice_index};
 ghost use Rattle.tetra_bits.specs.Soft.{AllWithin};
-ghost use Rattle.tetra_rm.specs.Code.{access_metric, best_access};
-ghost use Rattle.tetra_rm.specs.Search.{IsLeastBelow, IsPart, FitLanes, key_in_middle, key_in_front, key_of_number};
+ghost use Rattle.tetra_rm.specs.Search.{AreSums, AreTables, IsLeastBelow, IsPart, FitLanes, key_in_middle, key_by_tables, key_of_number};
 
-use crate::keys::{fill_lane_keys, message_of, metric_of, no_keys, part_keys};
+use crate::keys::{fill_lane_keys, no_keys, part_keys};
 use crate::lanes::{added, all_lanes, lesser};
-use crate::sums::part_sums;
-use crate::table::Rows;
 use std::simd::prelude::*;
 use tetra_bits::Soft;
 
@@ -29,18 +24,19 @@ struct Part {
     keys: [u32; 64],
 }
 
-/// The tables of `n` bits of the message from bit `from` on, counted from 0, the last of which stands for `unit`; `n` is
-/// at most 6.
-fn part_tables(rows: &Rows, soft: &Soft, from: usize, n: usize, unit: u32) -> Part
+/// The tables of `n` bits of the message from bit `from` on, counted from 0, the last of which stands for `unit`, where
+/// `sums` are those of their rows; `n` is at most 6.
+fn part_tables(sums: &[u16; 64], soft: &Soft, from: usize, n: usize, unit: u32) -> Part
     requires values { length soft.now ≡ 30 }
     requires within { AllWithin 4095 soft.now }
     requires there { from + n ≤ 14 }
     requires few { n ≤ 6 }
     requires unit { (unit ≡ 2 ^ (14 - (from + n))) × (unit ≤ 512) }
-    ensures { IsPart rows.now.0 soft.now from n result }
+    ensures part { (rows : List ℕ) → AreSums rows from n sums.now → IsPart rows soft.now from n result }
+    ensures small { (v : ℕ) → v < 2 ^ n → slice_index result.keys v < 2 ^ 29 }
 {
     Part {
-        sums: part_sums(rows, from, n),
+        sums: *sums,
         keys: part_keys(soft, from, n, unit),
     }
 }
@@ -110,23 +106,6 @@ fn least_behind(
     added(least, all_lanes(front.keys[at]))
 }
 
-/// The least of these over all bits in front.
-fn least_in_front(first: &[u32x8; 256], second: &[u32x8; 256], front: &Part, middle: &Part) -> u32x8
-    requires lanes { (FitLanes first.now) × (FitLanes second.now) }
-    requires front { (v : ℕ) → v < 32 → slice_index front.now.keys v < 2 ^ 29 }
-    requires middle { (v : ℕ) → v < 64 → slice_index middle.now.keys v < 2 ^ 29 }
-    ensures long { length result ≡ 8 }
-    ensures least { (j : ℕ) → j < 8
-        → IsLeastBelow (key_in_front first.now second.now front.now middle.now j) 2048 (slice_index result j) }
-    ensures small { (j : ℕ) → j < 8 → slice_index result j < 2 ^ 31 + 2 ^ 29 }
-{
-    let mut least = least_behind(first, second, front, middle, 0);
-    for at in 1..32 {
-        least = lesser(least, least_behind(first, second, front, middle, at));
-    }
-    least
-}
-
 /// The least of eight keys, to each of which `last` adds something.
 fn least_lane(keys: &[u32; 8], last: &[u32; 64]) -> u32
     requires keys { (j : ℕ) → j < 8 → slice_index keys.now j < 2 ^ 31 + 2 ^ 29 }
@@ -140,37 +119,99 @@ fn least_lane(keys: &[u32; 8], last: &[u32; 64]) -> u32
     least
 }
 
-/// The least key of all messages.
-fn least_key(rows: &Rows, soft: &Soft) -> u32
-    requires values { length soft.now ≡ 30 }
-    requires within { AllWithin 4095 soft.now }
-    ensures { IsLeastBelow (key_of_number rows.now.0 soft.now) 16384 result }
+/// The least key of the messages whose bits in front are those of `at`.
+fn least_at(
+    first: &[u32x8; 256],
+    second: &[u32x8; 256],
+    front: &Part,
+    middle: &Part,
+    last: &Part,
+    at: usize,
+) -> u32
+    requires lanes { (FitLanes first.now) × (FitLanes second.now) }
+    requires front { slice_index front.now.keys at < 2 ^ 29 }
+    requires middle { (v : ℕ) → v < 64 → slice_index middle.now.keys v < 2 ^ 29 }
+    requires last { (v : ℕ) → v < 8 → slice_index last.now.keys v < 2 ^ 29 }
+    requires there { at < 32 }
+    ensures { IsLeastBelow (λ v. key_by_tables first.now second.now front.now middle.now last.now (at * 512 + v)) 512 result }
 {
-    let front = part_tables(rows, soft, 0, 5, 512);
-    let middle = part_tables(rows, soft, 5, 6, 8);
-    let last = part_tables(rows, soft, 11, 3, 1);
-    let mut first = no_keys();
-    let mut second = no_keys();
-    fill_lane_keys(soft, 14, &last.sums, 8, &mut first);
-    fill_lane_keys(soft, 22, &last.sums, 0, &mut second);
-    let least = least_in_front(&first, &second, &front, &middle);
+    let least = least_behind(first, second, front, middle, at);
     least_lane(&least.to_array(), &last.keys)
 }
 
-/// The first-least message over 30 soft values, and its metric: that of the word which costs least, and of equal ones
-/// the first in bit order. This project's own.
-pub fn decode(rows: &Rows, soft: &Soft) -> RmReading
-    requires { length soft.now ≡ 30 }
-    ensures message { result.message < 16384 }
-    ensures best { digits 14 result.message ≡ best_access rows.now.0 soft.now }
-    ensures first { FirstLeast 14 (access_metric rows.now.0 soft.now) (digits 14 result.message) }
-    ensures metric { result.metric ≡ access_metric rows.now.0 soft.now (digits 14 result.message) }
-    ensures within { (top : ℕ) → AllWithin top soft.now → result.metric ≤ top * 30 }
+/// The lesser of `least` and the least key of these messages, which need no search where what their bits in front add is
+/// no less.
+fn lesser_at(
+    first: &[u32x8; 256],
+    second: &[u32x8; 256],
+    front: &Part,
+    middle: &Part,
+    last: &Part,
+    at: usize,
+    least: u32,
+) -> u32
+    requires lanes { (FitLanes first.now) × (FitLanes second.now) }
+    requires front { slice_index front.now.keys at < 2 ^ 29 }
+    requires middle { (v : ℕ) → v < 64 → slice_index middle.now.keys v < 2 ^ 29 }
+    requires last { (v : ℕ) → v < 8 → slice_index last.now.keys v < 2 ^ 29 }
+    requires there { at < 32 }
+    ensures { (f : ℕ → ℕ) (n : ℕ)
+        → ((v : ℕ) → v < 512 → f (n + v) ≡ key_by_tables first.now second.now front.now middle.now last.now (at * 512 + v))
+        → IsLeastBelow f n least → IsLeastBelow f (n + 512) result }
 {
-    let _len = soft.len();
-    let key = least_key(rows, soft);
-    RmReading {
-        message: message_of(key),
-        metric: metric_of(key),
+    if front.keys[at] < least {
+        return least.min(least_at(first, second, front, middle, last, at));
     }
+    least
+}
+
+/// The bits in front that add least.
+fn likeliest(front: &Part) -> usize
+    ensures { result < 32 }
+{
+    let mut key = front.keys[0];
+    for at in 1..32 {
+        key = key.min(front.keys[at]);
+    }
+    (key / 512 % 32) as usize
+}
+
+/// The least key of all messages, by their tables. The search begins with the likeliest bits in front.
+fn least_of_all(
+    first: &[u32x8; 256],
+    second: &[u32x8; 256],
+    front: &Part,
+    middle: &Part,
+    last: &Part,
+) -> u32
+    requires lanes { (FitLanes first.now) × (FitLanes second.now) }
+    requires front { (v : ℕ) → v < 32 → slice_index front.now.keys v < 2 ^ 29 }
+    requires middle { (v : ℕ) → v < 64 → slice_index middle.now.keys v < 2 ^ 29 }
+    requires last { (v : ℕ) → v < 8 → slice_index last.now.keys v < 2 ^ 29 }
+    ensures { IsLeastBelow (key_by_tables first.now second.now front.now middle.now last.now) 16384 result }
+{
+    let start = likeliest(front);
+    let mut least = least_at(first, second, front, middle, last, start);
+    for step in 1..32usize {
+        let at = (start + step) % 32;
+        least = lesser_at(first, second, front, middle, last, at, least);
+    }
+    least
+}
+
+/// The least key of all messages, by the sums of the rows of their bits in front, in the middle and at the end.
+pub fn least_key(front: &[u16; 64], middle: &[u16; 64], last: &[u16; 64], soft: &Soft) -> u32
+    requires values { length soft.now ≡ 30 }
+    requires within { AllWithin 4095 soft.now }
+    ensures { (rows : List ℕ) → AreTables rows front.now middle.now last.now
+        → IsLeastBelow (key_of_number rows soft.now) 16384 result }
+{
+    let mut first = no_keys();
+    let mut second = no_keys();
+    let front = part_tables(front, soft, 0, 5, 512);
+    let middle = part_tables(middle, soft, 5, 6, 8);
+    let last = part_tables(last, soft, 11, 3, 1);
+    fill_lane_keys(soft, 14, &last.sums, 8, &mut first);
+    fill_lane_keys(soft, 22, &last.sums, 0, &mut second);
+    least_of_all(&first, &second, &front, &middle, &last)
 }

@@ -2,7 +2,7 @@
 ghost use Rattle.std.specs.Prelude.{◌≡◌, length};
 
 use crate::walk::{decode_by_walk, turned};
-use crate::{Rows, decode, encode, own_rows};
+use crate::{AccessCode, Rows, decode, encode, own_rows};
 use tetra_bits::{Bits, Soft};
 
 /// The bits of a word, the first of 30 highest.
@@ -81,4 +81,14 @@ fn message_of_all_parts(rt: HostRuntime) {
     let word = number(&encode(&own_rows(), 0x2A95));
     let reading = decode(&own_rows(), &values(word ^ 0x0101_0001));
     assert_eq!(rt; (reading.message, reading.metric), (0x2A95, 3 * 127));
+}
+
+#[test]
+fn one_code_reads_two_fields(rt: HostRuntime) {
+    let code = AccessCode::of(&own_rows());
+    let word = number(&encode(&own_rows(), 0x2A95));
+    let first = code.decode(&values(word));
+    let second = code.decode(&values(0x0001_1F5F));
+    assert_eq!(rt; (first.message, first.metric), (0x2A95, 0));
+    assert_eq!(rt; (second.message, second.metric), (1, 0));
 }

@@ -1,20 +1,23 @@
-use Rattle.std.proofs.Common.{◌≡◌, ◌+◌, ◌*◌, ◌/◌, ◌%◌, get_or, arith, ap, ◌∙◌, sym}
+use Rattle.std.proofs.Common.{◌≡◌, ◌+◌, ◌*◌, ◌/◌, ◌%◌, arith, ap, ◌∙◌, sym}
 use Rattle.std.proofs.lemmas.Nat.{xor_of_16}
-use Rattle.tetra_rm.specs.Search.{key_in_front, key_of_number}
-use Rattle.tetra_rm.proofs.Least.{least_by_lanes}
+use Rattle.tetra_rm.specs.Search.{key_by_tables, key_of_number}
+use Rattle.tetra_rm.proofs.Least.{least_of_same}
 use Rattle.tetra_rm.proofs.WholeKeys.{key_by_parts}
 use Rattle.tetra_rm.proofs.searching.least_key.Goals as goal
 
 pub returns : goal.returns
-unfolding key_in_front
-returns c =
-    least_by_lanes (key_of_number c.args.rows.now.0 c.args.soft.now)
-    (λ j u. key_in_front c.fill_lane_keys.new.keys c.fill_lane_keys-2.new.keys c.part_tables-front.result c.part_tables-middle.result j u)
-    2048 (λ j. get_or c.least_in_front-least.result j 0) (λ j. get_or c.part_tables-last.result.keys j 0) c.least_lane.result
-    (λ u j h l.
-    let u_is : u / 64 * 64 + u % 64 ≡ u = omega arith in
-    ap (λ v. key_of_number c.args.rows.now.0 c.args.soft.now (v * 8 + j)) (sym u_is)
-    ∙ sym (key_by_parts c.args.rows.now.0 c.args.soft.now c.requires.values c.part_tables-front.result c.part_tables-middle.result c.part_tables-last.result
-    c.part_tables-front.ensures c.part_tables-middle.ensures c.part_tables-last.ensures c.fill_lane_keys.new.keys c.fill_lane_keys-2.new.keys c.fill_lane_keys.ensures.keys c.fill_lane_keys-2.ensures.keys
-    (u / 64) (u % 64) j (omega arith) (omega arith) l (xor_of_16 _ _ (c.part_tables-front.ensures.fit (u / 64) (omega arith)) (c.part_tables-middle.ensures.fit (u % 64) (omega arith)))))
-    c.least_in_front-least.ensures.least c.least_lane.ensures
+unfolding key_by_tables
+returns c = λ rows tables.
+    let front = c.part_tables-front.ensures.part rows tables.front in
+    let middle = c.part_tables-middle.ensures.part rows tables.middle in
+    let last = c.part_tables-last.ensures.part rows tables.last in
+    least_of_same (key_of_number rows c.args.soft.now)
+    (key_by_tables c.fill_lane_keys.new.keys c.fill_lane_keys-2.new.keys c.part_tables-front.result c.part_tables-middle.result c.part_tables-last.result)
+    16384 c.least_of_all.result
+    (λ k h.
+    let number : (k / 512 * 64 + k / 8 % 64) * 8 + k % 8 ≡ k = omega arith in
+    ap (key_of_number rows c.args.soft.now) (sym number)
+    ∙ sym (key_by_parts rows c.args.soft.now c.requires.values c.part_tables-front.result c.part_tables-middle.result c.part_tables-last.result
+    front middle last c.fill_lane_keys.new.keys c.fill_lane_keys-2.new.keys c.fill_lane_keys.ensures.keys c.fill_lane_keys-2.ensures.keys
+    (k / 512) (k / 8 % 64) (k % 8) (omega arith) (omega arith) (omega arith) (xor_of_16 _ _ (front.fit (k / 512) (omega arith)) (middle.fit (k / 8 % 64) (omega arith)))))
+    c.least_of_all.ensures

@@ -144,9 +144,9 @@ piece_turn place bits h =
     let half : length e / 2 ≡ 8 = omega arith in
     let at : (i : ℕ) → i < 16 → bit_at e i ≡ bit_at bits (2 * place + i) = λ i l. get_or-take 16 (drop (2 * place) bits) i false l ∙ get_or-drop (2 * place) bits i false in
     let same : (k : ℕ) → k < 8 → step (bit_at e (2 * k)) (bit_at e (2 * k + 1)) ≡ step (bit_at bits (2 * (place + k))) (bit_at bits (2 * (place + k) + 1)) = λ k l.
-        let first : bit_at e (2 * k) ≡ bit_at bits (2 * (place + k)) = at (2 * k) (omega arith) ∙ ap (bit_at bits) (omega arith) in
-        let second : bit_at e (2 * k + 1) ≡ bit_at bits (2 * (place + k) + 1) = at (2 * k + 1) (omega arith) ∙ ap (bit_at bits) (omega arith) in
-        (λ i. step (first i) (second i)) in
+    let first : bit_at e (2 * k) ≡ bit_at bits (2 * (place + k)) = at (2 * k) (omega arith) ∙ ap (bit_at bits) (omega arith) in
+    let second : bit_at e (2 * k + 1) ≡ bit_at bits (2 * (place + k) + 1) = at (2 * k + 1) (omega arith) ∙ ap (bit_at bits) (omega arith) in
+    (λ i. step (first i) (second i)) in
     ap (λ n. sum_below n (symbol_step e)) half ∙ sum_same 8 (symbol_step e) (λ k. symbol_step bits (place + k)) same
 
 -- symbol j of a range
@@ -183,8 +183,8 @@ eights_next slot first j sum bits eight size low high so_far mask value =
     let here : eight ≡ sum_below 8 (λ k. symbol_step all (place + k)) = value (take 16 (drop (2 * place) all)) long mask ∙ piece_turn place all room in
     let same : sum_below 8 (λ k. symbol_step all (place + k)) ≡ sum_below 8 (λ k. steps slot first (8 * j + k)) =
     sum_same 8 (λ k. symbol_step all (place + k)) (λ k. steps slot first (8 * j + k)) (λ k h.
-        let at : place + k ≡ first - 1 + (8 * j + k) = omega arith in
-        ap (symbol_step all) at) in
+    let at : place + k ≡ first - 1 + (8 * j + k) = omega arith in
+    ap (symbol_step all) at) in
     let more : 8 * (j + 1) ≡ 8 * j + 8 = omega arith in
     let both : sum_below (8 * (j + 1)) (steps slot first) ≡ sum_below (8 * j) (steps slot first) + sum_below 8 (λ k. steps slot first (8 * j + k)) =
     ap (λ n. sum_below n (steps slot first)) more ∙ sum_add (8 * j) 8 (steps slot first) in

@@ -1,6 +1,6 @@
 -- The bits of sixteen positions as the mask of their signs.
 use Prim.Native.Nat.{zero, suc}
-use Rattle.std.proofs.Common.{◌≡◌, ℕ, ◌+◌, ◌-◌, ◌*◌, ◌/◌, ◌%◌, ◌^◌, ◌<◌, ◌≤◌, Bool, true, false, cond, ltb, ℤ, pos, negsuc, to_z, of_z, List, [], ◌∷◌, length, take, drop, map, get_or, replicate, w8, arith, refl, ap, sym, ◌∙◌}
+use Rattle.std.proofs.Common.{◌≡◌, ℕ, ◌+◌, ◌%◌, ◌^◌, ◌<◌, ◌≤◌, Bool, cond, ℤ, pos, negsuc, to_z, of_z, List, [], ◌∷◌, length, take, drop, map, get_or, replicate, w8, arith, refl, ap, sym, ◌∙◌}
 use Rattle.std.specs.Simd.Lanes.{mask_l, zip2, top, Each1}
 use Rattle.std.proofs.lemmas.Int.{to_z-of_z, ints}
 use Rattle.std.proofs.lemmas.List.{take-map, drop-map, drop_more}
@@ -24,7 +24,6 @@ lane_sign z fits = ap (λ x. lt_z x (pos 0)) (to_z-of_z w8 z fits) ∙ below_zer
 lane_signs : (zs : List ℤ) → Each1 (SFits w8) zs → map (λ x. lane_below x 0) (map (of_z w8) zs) ≡ map is_negative zs
 lane_signs [] e = refl
 lane_signs (z ∷ zs) e = λ i. lane_sign z e.0 i ∷ lane_signs zs e.1 i
-
 
 -- the values from the k-th behind `from` on, n in all
 abbrev pub values : List ℤ → ℕ → ℕ → ℕ → List ℤ

@@ -1,4 +1,4 @@
-use Rattle.std.proofs.Common.{◌≡◌, ◌+◌, ◌*◌, ◌/◌, bit_and, bit_xor, ap, ◌∙◌}
+use Rattle.std.proofs.Common.{◌+◌, ◌*◌, ◌/◌, bit_and, bit_xor, ap, ◌∙◌}
 use Rattle.std.specs.Int.Count.{ones}
 use Rattle.tetra_bursts.proofs.Eights.{counted_turn}
 use Rattle.tetra_bursts.proofs.phase.eight_steps.Goals as goal

@@ -1,7 +1,7 @@
-use Rattle.std.proofs.Common.{rules, ℕ, ◌<◌, ◌+◌, ◌≤◌, ◌∷◌, length, get_or, pos, w8, arith}
+use Rattle.std.proofs.Common.{rules, ◌∷◌, get_or, pos, w8, arith}
 use Rattle.std.specs.Simd.Lanes.{Each1}
 use mir.Val.{SFits}
-use Rattle.tetra_bursts.proofs.Sixteen.{sixteen_signs, lanes_mask, lanes_mask_small, values}
+use Rattle.tetra_bursts.proofs.Sixteen.{sixteen_signs, lanes_mask_small, values}
 use Rattle.tetra_bursts.proofs.phase.sixteen.Goals as goal
 
 pub overflow_cast-result : goal.overflow_cast-result

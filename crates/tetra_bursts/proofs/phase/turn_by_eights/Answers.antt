@@ -1,6 +1,5 @@
-use Rattle.std.proofs.Common.{◌≡◌, ◌+◌, ◌-◌, ◌*◌, ◌≤◌, length, arith, refl, ap, sym, ◌∙◌}
+use Rattle.std.proofs.Common.{◌≡◌, ◌+◌, ◌-◌, ◌*◌, arith, refl, ap, sym, ◌∙◌}
 use Rattle.tetra_bits.specs.Sums.{sum_below}
-use Rattle.tetra_bursts.specs.Phase.{turn, symbols, signs}
 use Rattle.tetra_bursts.proofs.Eights.{steps, range_turn, eights_next}
 use Rattle.tetra_bursts.proofs.phase.turn_by_eights.Goals as goal
 

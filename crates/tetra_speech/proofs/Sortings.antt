@@ -1,5 +1,5 @@
 -- Frames that are written into a list, each bit at its place.
-use Rattle.std.proofs.Common.{◌≡◌, ℕ, ◌+◌, ◌-◌, ◌*◌, ◌/◌, ◌<◌, ◌≤◌, inl, inr, Bool, false, List, ◌++◌, length, take, drop, get_or, set, arith, refl, ap, sym, ◌∙◌}
+use Rattle.std.proofs.Common.{◌≡◌, ℕ, ◌+◌, ◌-◌, ◌*◌, ◌/◌, ◌<◌, ◌≤◌, inl, inr, Bool, false, List, ◌++◌, length, take, drop, set, arith, refl, ap, sym, ◌∙◌}
 use Rattle.std.proofs.lemmas.Bool.{cases_lt}
 use Rattle.std.proofs.lemmas.List.{append_assoc, ext_get_or, get_or-set_same, get_or-set_other, get_or-take, get_or-drop, get_or_append_left, get_or-append_right, length-append, length-drop, length-set, length-take-le, take-append-drop}
 use Rattle.tetra_bits.specs.Order.{bit_at}
@@ -9,7 +9,7 @@ use Rattle.tetra_speech.specs.Laws.{AreClasses}
 use Rattle.tetra_speech.specs.declared.tables.Classes.{Classes}
 use Rattle.tetra_speech.specs.lemmas.ClassPlaces.{each_in_one_class}
 use Rattle.tetra_speech.specs.lemmas.Parts.{classes_from, are_classes, rejoined}
-use Rattle.tetra_speech.specs.lemmas.Sorted.{all_written, length-frame_of}
+use Rattle.tetra_speech.specs.lemmas.Sorted.{all_written}
 use Rattle.tetra_speech.specs.lemmas.Strands.{strand_bit, length-strand}
 
 -- the place of bit k of the classes, both counted from 0
@@ -114,23 +114,23 @@ module _ (uncoded coded : List Bool) (lu : length uncoded ≡ 102) (lc : length 
             get_or_append_left uncoded coded false (2 * k + from) a ∙ sym (strand_bit from uncoded k e)
             ∙ sym (get_or_append_left zero first false k d) ∙ sym (get_or_append_left (zero ++ first) second false k b)
         | inr ge ↦ get_or-append_right uncoded coded 102 (2 * k + from) false lu (omega (arith, ge)) ∙ elim (cases_lt k 107) [
-              | inl lt ↦
-                  let b : k < length (zero ++ first) = omega (arith, lt, l01) in
-                  let d : k - 51 < length (take 112 coded) / 2 = omega (arith, ge, lt, m1, l1) in
-                  let e : 2 * (k - 51) + from < 112 = omega (arith, ge, lt, one) in
-                  let f : 2 * k + from - 102 ≡ 2 * (k - 51) + from = omega (arith, ge) in
-                  ap (bit_at coded) f ∙ sym (get_or-take 112 coded (2 * (k - 51) + from) false e)
-                  ∙ sym (strand_bit from (take 112 coded) (k - 51) d) ∙ sym (get_or-append_right zero first 51 k false l0 ge)
-                  ∙ sym (get_or_append_left (zero ++ first) second false k b)
-              | inr more ↦
-                  let d : k - 107 < length (take 60 (drop 112 coded)) / 2 = omega (arith, more, h, m2, l2) in
-                  let e : 2 * (k - 107) + from < 60 = omega (arith, more, h, one) in
-                  let f : 2 * k + from - 102 ≡ 112 + (2 * (k - 107) + from) = omega (arith, more) in
-                  ap (bit_at coded) f ∙ sym (get_or-drop 112 coded (2 * (k - 107) + from) false)
-                  ∙ sym (get_or-take 60 (drop 112 coded) (2 * (k - 107) + from) false e)
-                  ∙ sym (strand_bit from (take 60 (drop 112 coded)) (k - 107) d)
-                  ∙ sym (get_or-append_right (zero ++ first) second 107 k false l01 more)
-            ]
+          | inl lt ↦
+              let b : k < length (zero ++ first) = omega (arith, lt, l01) in
+              let d : k - 51 < length (take 112 coded) / 2 = omega (arith, ge, lt, m1, l1) in
+              let e : 2 * (k - 51) + from < 112 = omega (arith, ge, lt, one) in
+              let f : 2 * k + from - 102 ≡ 2 * (k - 51) + from = omega (arith, ge) in
+              ap (bit_at coded) f ∙ sym (get_or-take 112 coded (2 * (k - 51) + from) false e)
+              ∙ sym (strand_bit from (take 112 coded) (k - 51) d) ∙ sym (get_or-append_right zero first 51 k false l0 ge)
+              ∙ sym (get_or_append_left (zero ++ first) second false k b)
+          | inr more ↦
+              let d : k - 107 < length (take 60 (drop 112 coded)) / 2 = omega (arith, more, h, m2, l2) in
+              let e : 2 * (k - 107) + from < 60 = omega (arith, more, h, one) in
+              let f : 2 * k + from - 102 ≡ 112 + (2 * (k - 107) + from) = omega (arith, more) in
+              ap (bit_at coded) f ∙ sym (get_or-drop 112 coded (2 * (k - 107) + from) false)
+              ∙ sym (get_or-take 60 (drop 112 coded) (2 * (k - 107) + from) false e)
+              ∙ sym (strand_bit from (take 60 (drop 112 coded)) (k - 107) d)
+              ∙ sym (get_or-append_right (zero ++ first) second 107 k false l01 more)
+        ]
       ]
 
   -- the frame that is written by them

@@ -20,7 +20,7 @@ loop-i-preserved c =
     record {
       size = c.set.ensures.len ∙ c.loop-i.invariant.size;
       written = front_set false (map is_negative (take count soft)) c.loop-i.bits c.set.new.self i _ c.loop-i.invariant.written
-          c.set.ensures.list (omega (arith, c.loop-i.invariant.size)) 
+          c.set.ensures.list (omega (arith, c.loop-i.invariant.size))
           (ap (λ (v : ℤ). lt_z v (pos 0)) read ∙ negative_is c.get.result ∙ ap is_negative c.get.ensures.value ∙ sym value);
     }
 

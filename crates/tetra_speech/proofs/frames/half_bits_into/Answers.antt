@@ -1,4 +1,4 @@
-use Rattle.std.proofs.Common.{◌≡◌, ◌+◌, ◌-◌, ◌<◌, length, arith, sym, subst, ◌∙◌}
+use Rattle.std.proofs.Common.{◌≡◌, ◌-◌, ◌<◌, length, arith, sym, subst}
 use Rattle.tetra_speech.proofs.Sortings.{HalfBack, spot, half_none, half_more, is_half_bits}
 use Rattle.tetra_speech.proofs.frames.half_bits_into.Goals as goal
 

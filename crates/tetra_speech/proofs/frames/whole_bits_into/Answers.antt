@@ -1,5 +1,5 @@
-use Rattle.std.proofs.Common.{◌≡◌, ◌+◌, ◌-◌, ◌<◌, length, arith, sym, subst, ◌∙◌}
-use Rattle.tetra_speech.proofs.Sortings.{SortedBack, spot, spot_within, back_none, back_more, is_whole_bits}
+use Rattle.std.proofs.Common.{◌≡◌, ◌-◌, ◌<◌, length, arith, sym, subst}
+use Rattle.tetra_speech.proofs.Sortings.{SortedBack, spot, back_none, back_more, is_whole_bits}
 use Rattle.tetra_speech.proofs.frames.whole_bits_into.Goals as goal
 
 pub loop-i-init : goal.loop-i-init

@@ -1,16 +1,19 @@
 -- Frames that are written into a list, each bit at its place.
 use Rattle.std.proofs.Common.{◌≡◌, ℕ, ◌+◌, ◌-◌, ◌*◌, ◌/◌, ◌<◌, ◌≤◌, inl, inr, Bool, false, List, ◌++◌, length, take, drop, set, arith, refl, ap, sym, ◌∙◌}
 use Rattle.std.proofs.lemmas.Bool.{cases_lt}
-use Rattle.std.proofs.lemmas.List.{append_assoc, ext_get_or, get_or-set_same, get_or-set_other, get_or-take, get_or-drop, get_or_append_left, get_or-append_right, length-append, length-drop, length-set, length-take-le, take-append-drop}
+use Rattle.std.proofs.lemmas.List.{append_assoc, ext_get_or, get_or-set_same, get_or-set_other, get_or-take, get_or-drop, get_or_append_left, get_or-append_right, length-append, length-drop, length-set, length-take-le, take-append-drop, take_all}
 use Rattle.tetra_bits.specs.Order.{bit_at}
-use Rattle.tetra_speech.specs.Classes.{class_place, frame_of}
-use Rattle.tetra_speech.specs.Frames.{strand, whole_frame, whole_bits, half_bits}
+use Rattle.tetra_interleave.specs.lemmas.Placed.{placed_is}
+use Rattle.tetra_speech.proofs.Pieces.{IsFront, front_set, front_of, behind}
+use Rattle.tetra_speech.specs.Classes.{class_0, class_place, frame_of}
+use Rattle.tetra_speech.specs.Frames.{strand, whole_frame, whole_uncoded, whole_coded, whole_bits, half_uncoded, half_coded, half_bits}
 use Rattle.tetra_speech.specs.Laws.{AreClasses}
 use Rattle.tetra_speech.specs.declared.tables.Classes.{Classes}
 use Rattle.tetra_speech.specs.lemmas.ClassPlaces.{each_in_one_class}
-use Rattle.tetra_speech.specs.lemmas.Parts.{classes_from, are_classes, rejoined}
-use Rattle.tetra_speech.specs.lemmas.Sorted.{all_written}
-use Rattle.tetra_speech.specs.lemmas.Strands.{strand_bit, length-strand}
+use Rattle.tetra_speech.specs.lemmas.Parts.{classes_from, are_classes, rejoined, parts_undone}
+use Rattle.tetra_speech.specs.lemmas.Sizes.{whole_coded_size, half_coded_size}
+use Rattle.tetra_speech.specs.lemmas.Sorted.{all_written, length-bits_at, length-classes, length-frame_of}
+use Rattle.tetra_speech.specs.lemmas.Strands.{strand_bit, length-alternated, length-strand}
 
 -- the place of bit k of the classes, both counted from 0
 abbrev pub spot : ℕ → ℕ
@@ -84,6 +87,15 @@ frame_lies base c bits are room lies =
     let within = spot_within k h in
     get_or-take 137 (drop base bits) (spot k) false within.0 ∙ get_or-drop base bits (spot k) false ∙ lies k h) (omega arith)
 
+-- a bit of a frame
+frame_entry : (c : Classes) → AreClasses c → (k : ℕ) → k < 137 → bit_at (frame_of c) (spot k) ≡ bit_at (c.zero ++ c.one ++ c.two) k
+unfolding frame_of
+frame_entry c are k h =
+    let x = c.zero ++ c.one ++ c.two in
+    let p = placed_is false 137 class_place x each_in_one_class (length-classes c are) in
+    let back : k + 1 - 1 ≡ k = omega arith in
+    p.entries (k + 1) (omega arith) (omega arith) ∙ ap (bit_at x) back
+
 -- the bits of a strand of each class behind one another
 module _ (uncoded coded : List Bool) (lu : length uncoded ≡ 102) (lc : length coded ≡ 180) (from : ℕ) (one : from ≤ 1) where
   c : Classes
@@ -140,6 +152,11 @@ module _ (uncoded coded : List Bool) (lu : length uncoded ≡ 102) (lc : length 
   unfolding whole_frame c classes_from
   frame_is base bits room lies =
       frame_lies base c bits s room (λ k h. lies k h ∙ sorted_bit k h)
+
+  -- a bit of the frame
+  pub strand_entry : (k : ℕ) → k < 137 → bit_at (whole_frame from uncoded coded) (spot k) ≡ bit_at (uncoded ++ coded) (2 * k + from)
+  unfolding whole_frame c classes_from
+  strand_entry k h = frame_entry c s k h ∙ sym (sorted_bit k h)
 
 -- the rest is the parity
 rest_is : (front n : ℕ) (before coded bits : List Bool) → length bits ≡ length (before ++ coded) → length before + n ≡ front
@@ -271,3 +288,171 @@ is_half_bits uncoded coded sorted bits i lu lc es back all =
     let a : take 137 bits ≡ frame_of c = frame_lies 0 c bits are (omega (arith, size)) first in
     let d : drop 137 bits ≡ drop 86 coded = rest_is 137 86 uncoded coded bits (omega (arith, size, long, lu, lc)) (omega (arith, lu)) rest in
     sym (take-append-drop 137 bits) ∙ rw (a, d) refl
+
+-- the bits that are read of a whole slot, by its uncoded and its coded ones
+frame_size : (from : ℕ) (uncoded coded : List Bool) → length (whole_frame from uncoded coded) ≡ 137
+unfolding whole_frame
+frame_size from uncoded coded = length-frame_of _
+
+module _ (uncoded coded bits : List Bool) (lu : length uncoded ≡ 102) (lc : length coded ≡ 180) (e : whole_bits uncoded coded ≡ bits) where
+  f0 : List Bool
+  f0 = whole_frame 0 uncoded coded
+
+  f1 : List Bool
+  f1 = whole_frame 1 uncoded coded
+
+  l0 : length f0 ≡ 137
+  unfolding f0
+  l0 = frame_size 0 uncoded coded
+
+  l1 : length f1 ≡ 137
+  unfolding f1
+  l1 = frame_size 1 uncoded coded
+
+  l01 : length (f0 ++ f1) ≡ 274
+  l01 = omega (arith, length-append f0 f1, l0, l1)
+
+  is_made : bits ≡ f0 ++ f1 ++ drop 172 coded
+  unfolding whole_bits f0 f1
+  is_made = sym e
+
+  pub first_entry : (k : ℕ) → k < 137 → bit_at bits (spot k) ≡ bit_at (uncoded ++ coded) (2 * k + 0)
+  unfolding f0
+  first_entry k h =
+      let within = spot_within k h in
+      let a : spot k < length (f0 ++ f1) = omega (arith, within.0, l01) in
+      let b : spot k < length f0 = omega (arith, within.0, l0) in
+      ap (λ x. bit_at x (spot k)) is_made ∙ get_or_append_left (f0 ++ f1) (drop 172 coded) false (spot k) a
+      ∙ get_or_append_left f0 f1 false (spot k) b ∙ strand_entry uncoded coded lu lc 0 (omega arith) k h
+
+  pub second_entry : (k : ℕ) → k < 137 → bit_at bits (137 + spot k) ≡ bit_at (uncoded ++ coded) (2 * k + 1)
+  unfolding f1
+  second_entry k h =
+      let within = spot_within k h in
+      let a : 137 + spot k < length (f0 ++ f1) = omega (arith, within.0, l01) in
+      let b : 137 ≤ 137 + spot k = omega arith in
+      let at : 137 + spot k - 137 ≡ spot k = omega arith in
+      ap (λ x. bit_at x (137 + spot k)) is_made ∙ get_or_append_left (f0 ++ f1) (drop 172 coded) false (137 + spot k) a
+      ∙ get_or-append_right f0 f1 137 (137 + spot k) false l0 b ∙ ap (bit_at f1) at
+      ∙ strand_entry uncoded coded lu lc 1 (omega arith) k h
+
+  pub last_entry : (k : ℕ) → 274 ≤ k → bit_at bits k ≡ bit_at (uncoded ++ coded) k
+  last_entry k h =
+      let at : 172 + (k - 274) ≡ k - 102 = omega (arith, h) in
+      ap (λ x. bit_at x k) is_made ∙ get_or-append_right (f0 ++ f1) (drop 172 coded) 274 k false l01 h
+      ∙ get_or-drop 172 coded (k - 274) false ∙ ap (bit_at coded) at
+      ∙ sym (get_or-append_right uncoded coded 102 k false lu (omega (arith, h)))
+
+-- how far bits are sorted: the front by now, and the rest which stays
+pub record SortedOut (end : ℕ) (bits wanted sorted : List Bool) (done : ℕ) : Type 0 where
+  pub size : length sorted ≡ length bits
+  pub front : IsFront false wanted done sorted
+  pub rest : Ends end bits sorted
+
+pub out_none : (end : ℕ) (bits wanted : List Bool) → SortedOut end bits wanted bits 0
+out_none end bits wanted = record { size = refl; front = λ k h. absurd (omega (arith, h)); rest = λ k h. refl }
+
+pub out_more : (end : ℕ) (bits wanted old new : List Bool) (i : ℕ) (v : Bool) → SortedOut end bits wanted old i
+    → i < end → end ≤ length bits → new ≡ set old i v → v ≡ bit_at wanted i → SortedOut end bits wanted new (i + 1)
+out_more end bits wanted old new i v before less room en ev = record {
+  size = ap length en ∙ length-set old i v ∙ before.size;
+  front = front_set false wanted old new i v before.front en (omega (arith, less, room, before.size)) ev;
+  rest = ends_still end i bits old new v before.rest less en;
+}
+
+pub out_all : (end i : ℕ) (bits wanted sorted : List Bool) → SortedOut end bits wanted sorted i → end ≤ i
+    → length wanted ≡ length bits → ((k : ℕ) → end ≤ k → bit_at bits k ≡ bit_at wanted k) → sorted ≡ wanted
+out_all end i bits wanted sorted out all long rest =
+    ext_get_or false sorted wanted (out.size ∙ sym long)
+    (λ k h. elim (cases_lt k end) [
+      | inl lt ↦
+          let done : k < i = omega (arith, lt, all) in
+          let back : k + 1 - 1 ≡ k = omega arith in
+          out.front k done ∙ ap (bit_at wanted) back
+      | inr ge ↦ out.rest k ge ∙ rest k ge
+    ])
+
+-- the bits of a whole slot, sorted
+whole_uncoded_size : (bits : List Bool) → length (whole_uncoded bits) ≡ 102
+unfolding whole_uncoded
+whole_uncoded_size bits = length-alternated _ _ ∙ ap (λ n. 2 * n) (length-bits_at class_0 _)
+
+pub record WholeSorted (bits : List Bool) : Type 0 where
+  pub size : length (whole_uncoded bits ++ whole_coded bits) ≡ 282
+  pub first : (k : ℕ) → k < 137 → bit_at bits (spot k) ≡ bit_at (whole_uncoded bits ++ whole_coded bits) (2 * k)
+  pub second : (k : ℕ) → k < 137 → bit_at bits (137 + spot k) ≡ bit_at (whole_uncoded bits ++ whole_coded bits) (2 * k + 1)
+  pub rest : (k : ℕ) → 274 ≤ k → bit_at bits k ≡ bit_at (whole_uncoded bits ++ whole_coded bits) k
+  pub coded : take 180 (drop 102 (whole_uncoded bits ++ whole_coded bits)) ≡ whole_coded bits
+  pub uncoded : take 102 (whole_uncoded bits ++ whole_coded bits) ≡ whole_uncoded bits
+
+pub whole_sorted_is : (bits : List Bool) → length bits ≡ 282 → WholeSorted bits
+whole_sorted_is bits l =
+    let u = whole_uncoded bits in
+    let c = whole_coded bits in
+    let lu : length u ≡ 102 = whole_uncoded_size bits in
+    let lc : length c ≡ 180 = whole_coded_size bits l in
+    let e : whole_bits u c ≡ bits = parts_undone.whole_again bits l in
+    record {
+      size = omega (arith, length-append u c, lu, lc);
+      first = λ k h. let none : 2 * k + 0 ≡ 2 * k = omega arith in first_entry u c bits lu lc e k h ∙ ap (bit_at (u ++ c)) none;
+      second = second_entry u c bits lu lc e;
+      rest = last_entry u c bits lu lc e;
+      coded = ap (take 180) (behind 102 u c lu) ∙ take_all 180 c (omega (arith, lc));
+      uncoded = front_of 102 u c lu;
+    }
+
+-- the bits of half a slot, sorted
+half_uncoded_size : (bits : List Bool) → length (half_uncoded bits) ≡ 51
+unfolding half_uncoded
+half_uncoded_size bits = length-bits_at class_0 _
+
+half_made : (u c bits : List Bool) → length u ≡ 51 → length c ≡ 90 → half_bits u c ≡ bits
+    → ((k : ℕ) → k < 137 → bit_at bits (spot k) ≡ bit_at (u ++ c) k) × ((k : ℕ) → 137 ≤ k → bit_at bits k ≡ bit_at (u ++ c) k)
+unfolding half_bits
+half_made u c bits lu lc e =
+    let one = take 56 c in
+    let two = take 30 (drop 56 c) in
+    let cs : Classes = record { zero = u; one = take 56 c; two = take 30 (drop 56 c) } in
+    let are : AreClasses cs = record {
+      zero = lu;
+      one = length-take-le 56 c (omega (arith, lc));
+      two = length-take-le 30 (drop 56 c) (omega (arith, lc, length-drop 56 c));
+    } in
+    let three : length (u ++ one ++ two) ≡ 137 = length-classes cs are in
+    let lf : length (frame_of cs) ≡ 137 = length-frame_of cs in
+    (
+      λ k h.
+          let within = spot_within k h in
+          ap (λ x. bit_at x (spot k)) (sym e)
+          ∙ get_or_append_left (frame_of cs) (drop 86 c) false (spot k) (omega (arith, within.0, lf))
+          ∙ frame_entry cs are k h
+          ∙ sym (get_or_append_left (u ++ one ++ two) (drop 86 c) false k (omega (arith, h, three)))
+          ∙ ap (λ x. bit_at x k) (half_sorted u c lc),
+      λ k h.
+          let at : 86 + (k - 137) ≡ k - 51 = omega (arith, h) in
+          ap (λ x. bit_at x k) (sym e) ∙ get_or-append_right (frame_of cs) (drop 86 c) 137 k false lf h
+          ∙ get_or-drop 86 c (k - 137) false ∙ ap (bit_at c) at
+          ∙ sym (get_or-append_right u c 51 k false lu (omega (arith, h))),
+    )
+
+pub record HalfSorted (bits : List Bool) : Type 0 where
+  pub size : length (half_uncoded bits ++ half_coded bits) ≡ 141
+  pub first : (k : ℕ) → k < 137 → bit_at bits (spot k) ≡ bit_at (half_uncoded bits ++ half_coded bits) k
+  pub rest : (k : ℕ) → 137 ≤ k → bit_at bits k ≡ bit_at (half_uncoded bits ++ half_coded bits) k
+  pub coded : take 90 (drop 51 (half_uncoded bits ++ half_coded bits)) ≡ half_coded bits
+  pub uncoded : take 51 (half_uncoded bits ++ half_coded bits) ≡ half_uncoded bits
+
+pub half_sorted_is : (bits : List Bool) → length bits ≡ 141 → HalfSorted bits
+half_sorted_is bits l =
+    let u = half_uncoded bits in
+    let c = half_coded bits in
+    let lu : length u ≡ 51 = half_uncoded_size bits in
+    let lc : length c ≡ 90 = half_coded_size bits l in
+    let made = half_made u c bits lu lc (parts_undone.half_again bits l) in
+    record {
+      size = omega (arith, length-append u c, lu, lc);
+      first = made.0;
+      rest = made.1;
+      coded = ap (take 90) (behind 51 u c lu) ∙ take_all 90 c (omega (arith, lc));
+      uncoded = front_of 51 u c lu;
+    }

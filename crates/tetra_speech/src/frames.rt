@@ -1,8 +1,8 @@
 // Two frames side by side, and the parts of what is read.
 ghost use Rattle.std.specs.Prelude.{◌≡◌, ◌≤◌, ◌+◌, ◌*◌, ◌⊎◌, ◌++◌, length, take, drop};
-ghost use Rattle.tetra_speech.specs.Frames.{alternated, trellis_part, uncoded_part, whole_bits, half_bits};
+ghost use Rattle.tetra_speech.specs.Frames.{alternated, trellis_part, uncoded_part, whole_uncoded, whole_coded, whole_bits, half_uncoded, half_coded, half_bits};
 
-use crate::sorting::{class_place, classes};
+use crate::sorting::class_place;
 use tetra_bits::Bits;
 
 /// The free bits of the trellis in coding order: 180 of the 282 bits of a whole slot, or 90 of the 141 of half a slot.
@@ -14,12 +14,9 @@ pub fn trellis_part(bits: &Bits) -> Bits
     ensures half { length bits.now ≡ 141 → length result ≡ 90 }
 {
     if bits.len() == 282 {
-        let (a, b) = (classes(&part(bits, 0, 137)), classes(&part(bits, 137, 137)));
-        let classes = joined(&alternated(&a.one, &b.one), &alternated(&a.two, &b.two));
-        joined(&classes, &part(bits, 274, 8))
+        part(&whole_sorted(bits), 102, 180)
     } else {
-        let frame = classes(&part(bits, 0, 137));
-        joined(&joined(&frame.one, &frame.two), &part(bits, 137, 4))
+        part(&half_sorted(bits), 51, 90)
     }
 }
 
@@ -32,11 +29,39 @@ pub fn uncoded_part(bits: &Bits) -> Bits
     ensures half { length bits.now ≡ 141 → length result ≡ 51 }
 {
     if bits.len() == 282 {
-        let (a, b) = (classes(&part(bits, 0, 137)), classes(&part(bits, 137, 137)));
-        alternated(&a.zero, &b.zero)
+        part(&whole_sorted(bits), 0, 102)
     } else {
-        classes(&part(bits, 0, 137)).zero
+        part(&half_sorted(bits), 0, 51)
     }
+}
+
+/// The 102 uncoded and behind them the 180 coded bits of the 282 of a whole slot.
+fn whole_sorted(bits: &Bits) -> Bits
+    requires { length bits.now ≡ 282 }
+    ensures bits { result ≡ whole_uncoded bits.now ++ whole_coded bits.now }
+    ensures size { length result ≡ 282 }
+{
+    // The bits of both frames stand side by side, in the order of their classes, and the parity bits stay where they are.
+    let mut sorted = bits.copy();
+    for i in 0..137usize {
+        let place = class_place(i) - 1;
+        sorted.set(2 * i, bits.get(place));
+        sorted.set(2 * i + 1, bits.get(137 + place));
+    }
+    sorted
+}
+
+/// The 51 uncoded and behind them the 90 coded bits of the 141 of half a slot.
+fn half_sorted(bits: &Bits) -> Bits
+    requires { length bits.now ≡ 141 }
+    ensures bits { result ≡ half_uncoded bits.now ++ half_coded bits.now }
+    ensures size { length result ≡ 141 }
+{
+    let mut sorted = bits.copy();
+    for i in 0..137usize {
+        sorted.set(i, bits.get(class_place(i) - 1));
+    }
+    sorted
 }
 
 /// The 282 bits of a whole slot by its 102 uncoded and its 180 coded bits: frames A and B, and 8 parity bits. They are

@@ -1,11 +1,9 @@
 -- What is read of speech from what the decoder answers.
-use Rattle.std.proofs.Common.{◌≡◌, ℕ, Bool, List, length, take, drop, Some, refl}
+use Rattle.std.proofs.Common.{◌≡◌, ℕ, Bool, List, take, drop, Some, refl}
 use Rattle.std.specs.Prelude.{ℤ}
-use Rattle.tetra_bits.specs.Cost.{metric}
 use Rattle.tetra_bits.specs.Plain.{best_plain}
 use Rattle.tetra_bits.specs.declared.reading.Mark.{Mark}
 use Rattle.tetra_bits.specs.declared.reading.Reading.{Reading}
-use Rattle.tetra_bits.specs.lemmas.Best.{best_is_first}
 use Rattle.tetra_parity.specs.Marks.{mark_of}
 use Rattle.tetra_parity.specs.declared.kind.Parity.{Parity}
 use Rattle.tetra_parity.specs.declared.kind.Parity.TheVariants.{Four, Eight}
@@ -15,10 +13,6 @@ use Rattle.tetra_puncture.specs.Plan.{CodePlan}
 use Rattle.tetra_puncture.specs.ToGo.{potentials_of}
 use Rattle.tetra_speech.specs.Frames.{whole_bits, half_bits}
 use Rattle.tetra_speech.specs.Reading.{whole_reading, half_reading}
-
-pub length-best_plain : (values : List ℤ) → length (best_plain values) ≡ length values
-unfolding best_plain
-length-best_plain values = (best_is_first (length values) (metric values)).has_length
 
 -- what is read over n uncoded values and the coded ones behind them; the mark is that of the message without its first
 -- bits, class 1
@@ -40,13 +34,13 @@ pub record IsSolved (p : CodePlan) (coded : List ℤ) (message : List Bool) (met
   pub exact : rows ≡ potentials_of p coded
 
 pub is_reading_over : (p : CodePlan) (parity : Parity) (n first : ℕ) (bits_of : List Bool → List Bool → List Bool)
-    (soft coded front : List ℤ) (message part plain bits : List Bool) (mark : Mark) (metric : ℕ) (rows : List (List ℕ))
-    → coded ≡ drop n soft → front ≡ take n soft → IsSolved p coded message metric rows → part ≡ drop first message
-    → mark ≡ mark_of parity part → plain ≡ best_plain front → bits ≡ bits_of plain message
+    (soft coded : List ℤ) (message part plain bits : List Bool) (mark : Mark) (metric : ℕ) (rows : List (List ℕ))
+    → coded ≡ drop n soft → IsSolved p coded message metric rows → part ≡ drop first message
+    → mark ≡ mark_of parity part → plain ≡ best_plain (take n soft) → bits ≡ bits_of plain message
     → ◌≡◌ {A = Reading} (record { mark = mark; metric = metric; bits = bits; potentials = Some rows })
     (reading_over p parity n first bits_of soft)
-is_reading_over p parity n first bits_of soft coded front message part plain bits mark metric rows ec ef s ep em el eb =
-    rw (em, ep, s.costs, s.exact, eb, el, s.best, ec, ef) refl
+is_reading_over p parity n first bits_of soft coded message part plain bits mark metric rows ec s ep em el eb =
+    rw (em, ep, s.costs, s.exact, eb, el, s.best, ec) refl
 
 pub whole_reading_is : (soft : List ℤ) → reading_over speech_whole Eight 102 112 whole_bits soft ≡ whole_reading soft
 unfolding whole_reading

@@ -1,10 +1,11 @@
 // Soft values to frames.
 ghost use Rattle.std.specs.Prelude.{◌≡◌, ◌≤◌, ◌+◌, length, take, drop};
+ghost use Rattle.tetra_bits.specs.Plain.{best_plain};
 ghost use Rattle.tetra_speech.specs.Reading.{whole_reading, half_reading};
 ghost use Rattle.tetra_speech.specs.Words.{whole_front, half_front};
 
-use crate::frames::{half_bits, part, whole_bits};
-use tetra_bits::{Bits, Mark, Potentials, Reading, Soft, read_plain};
+use crate::frames::{half_bits_into, part, whole_bits_into};
+use tetra_bits::{Bits, Mark, Potentials, Reading, Soft};
 use tetra_interleave::Matrix;
 use tetra_parity::{Parity, mark};
 use tetra_puncture::{SpeechHalf, SpeechWhole};
@@ -51,7 +52,7 @@ pub fn decode_whole_into(soft: &Soft, reading: &mut Reading)
     let potentials = reading.potentials.get_or_insert_with(Potentials::new);
     reading.metric = solve_into::<SpeechWhole>(&values(soft, 102, 330), &mut message, potentials);
     reading.mark = mark(Parity::Eight, &part(&message, 112, 68));
-    reading.bits = whole_bits(&read_plain(&values(soft, 0, 102)), &message);
+    whole_bits_into(&plain_front(soft, 102), &message, &mut reading.bits);
 }
 
 /// What is read over the 216 type-3 values of half a slot: a frame and 4 parity bits, in the same way.
@@ -75,7 +76,7 @@ pub fn decode_half_into(soft: &Soft, reading: &mut Reading)
     let potentials = reading.potentials.get_or_insert_with(Potentials::new);
     reading.metric = solve_into::<SpeechHalf>(&values(soft, 51, 165), &mut message, potentials);
     reading.mark = mark(Parity::Four, &part(&message, 56, 34));
-    reading.bits = half_bits(&read_plain(&values(soft, 0, 51)), &message);
+    half_bits_into(&plain_front(soft, 51), &message, &mut reading.bits);
 }
 
 /// So many values from the one at `from` on, which counts from 0.
@@ -86,10 +87,25 @@ pub fn values(soft: &Soft, from: usize, count: usize) -> Soft
 {
     let _len = soft.len();
     let mut part = Soft::new();
+    part.resize(count);
     for i in 0..count {
-        part.push(soft.get(from + i));
+        part.set(i, soft.get(from + i));
     }
     part
+}
+
+/// So many values from the first on, read as plain bits: 1 where a value is negative, else 0.
+fn plain_front(soft: &Soft, count: usize) -> Bits
+    requires { count ≤ length soft.now }
+    ensures bits { result ≡ best_plain (take count soft.now) }
+    ensures size { length result ≡ count }
+{
+    let _len = soft.len();
+    let mut bits = Bits::zeros(count);
+    for i in 0..count {
+        bits.set(i, soft.get(i) < 0);
+    }
+    bits
 }
 
 /// A reading without bits, to be written over.

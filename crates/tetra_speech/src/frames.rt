@@ -1,9 +1,8 @@
 // Two frames side by side, and the parts of what is read.
-ghost use Rattle.std.specs.Prelude.{◌≡◌, ◌≤◌, ◌+◌, ◌*◌, ◌/◌, ◌⊎◌, ◌++◌, length, take, drop};
-ghost use Rattle.tetra_speech.specs.Frames.{alternated, strand, trellis_part, uncoded_part, whole_bits, whole_frame, half_bits};
+ghost use Rattle.std.specs.Prelude.{◌≡◌, ◌≤◌, ◌+◌, ◌*◌, ◌⊎◌, ◌++◌, length, take, drop};
+ghost use Rattle.tetra_speech.specs.Frames.{alternated, trellis_part, uncoded_part, whole_uncoded, whole_coded, whole_bits, half_uncoded, half_coded, half_bits};
 
-use crate::sorting::{classes, unclasses};
-use crate::tables::Classes;
+use crate::sorting::class_place;
 use tetra_bits::Bits;
 
 /// The free bits of the trellis in coding order: 180 of the 282 bits of a whole slot, or 90 of the 141 of half a slot.
@@ -15,12 +14,9 @@ pub fn trellis_part(bits: &Bits) -> Bits
     ensures half { length bits.now ≡ 141 → length result ≡ 90 }
 {
     if bits.len() == 282 {
-        let (a, b) = (classes(&part(bits, 0, 137)), classes(&part(bits, 137, 137)));
-        let classes = joined(&alternated(&a.one, &b.one), &alternated(&a.two, &b.two));
-        joined(&classes, &part(bits, 274, 8))
+        part(&whole_sorted(bits), 102, 180)
     } else {
-        let frame = classes(&part(bits, 0, 137));
-        joined(&joined(&frame.one, &frame.two), &part(bits, 137, 4))
+        part(&half_sorted(bits), 51, 90)
     }
 }
 
@@ -33,55 +29,72 @@ pub fn uncoded_part(bits: &Bits) -> Bits
     ensures half { length bits.now ≡ 141 → length result ≡ 51 }
 {
     if bits.len() == 282 {
-        let (a, b) = (classes(&part(bits, 0, 137)), classes(&part(bits, 137, 137)));
-        alternated(&a.zero, &b.zero)
+        part(&whole_sorted(bits), 0, 102)
     } else {
-        classes(&part(bits, 0, 137)).zero
+        part(&half_sorted(bits), 0, 51)
     }
 }
 
-/// The 282 bits of a whole slot by its 102 uncoded and its 180 coded bits: frames A and B, and 8 parity bits.
-pub(crate) fn whole_bits(uncoded: &Bits, coded: &Bits) -> Bits
-    requires uncoded { length uncoded.now ≡ 102 }
-    requires coded { length coded.now ≡ 180 }
-    ensures bits { result ≡ whole_bits uncoded.now coded.now }
+/// The 102 uncoded and behind them the 180 coded bits of the 282 of a whole slot.
+fn whole_sorted(bits: &Bits) -> Bits
+    requires { length bits.now ≡ 282 }
+    ensures bits { result ≡ whole_uncoded bits.now ++ whole_coded bits.now }
     ensures size { length result ≡ 282 }
 {
-    let frames = joined(
-        &whole_frame(0, uncoded, coded),
-        &whole_frame(1, uncoded, coded),
-    );
-    joined(&frames, &part(coded, 172, 8))
+    // The bits of both frames stand side by side, in the order of their classes, and the parity bits stay where they are.
+    let mut sorted = bits.copy();
+    for i in 0..137usize {
+        let place = class_place(i) - 1;
+        sorted.set(2 * i, bits.get(place));
+        sorted.set(2 * i + 1, bits.get(137 + place));
+    }
+    sorted
 }
 
-/// Frame A (0) or B (1) of a whole slot.
-fn whole_frame(from: usize, uncoded: &Bits, coded: &Bits) -> Bits
-    requires from { from ≤ 1 }
-    requires uncoded { length uncoded.now ≡ 102 }
-    requires coded { length coded.now ≡ 180 }
-    ensures frame { result ≡ whole_frame from uncoded.now coded.now }
-    ensures size { length result ≡ 137 }
-{
-    unclasses(&Classes {
-        zero: strand(from, uncoded),
-        one: strand(from, &part(coded, 0, 112)),
-        two: strand(from, &part(coded, 112, 60)),
-    })
-}
-
-/// The 141 bits of half a slot by its 51 uncoded and its 90 coded bits: a frame and 4 parity bits.
-pub(crate) fn half_bits(uncoded: &Bits, coded: &Bits) -> Bits
-    requires uncoded { length uncoded.now ≡ 51 }
-    requires coded { length coded.now ≡ 90 }
-    ensures bits { result ≡ half_bits uncoded.now coded.now }
+/// The 51 uncoded and behind them the 90 coded bits of the 141 of half a slot.
+fn half_sorted(bits: &Bits) -> Bits
+    requires { length bits.now ≡ 141 }
+    ensures bits { result ≡ half_uncoded bits.now ++ half_coded bits.now }
     ensures size { length result ≡ 141 }
 {
-    let frame = unclasses(&Classes {
-        zero: uncoded.copy(),
-        one: part(coded, 0, 56),
-        two: part(coded, 56, 30),
-    });
-    joined(&frame, &part(coded, 86, 4))
+    let mut sorted = bits.copy();
+    for i in 0..137usize {
+        sorted.set(i, bits.get(class_place(i) - 1));
+    }
+    sorted
+}
+
+/// The 282 bits of a whole slot by its 102 uncoded and its 180 coded bits: frames A and B, and 8 parity bits. They are
+/// written into a list that is there.
+pub(crate) fn whole_bits_into(uncoded: &Bits, coded: &Bits, bits: &mut Bits)
+    requires uncoded { length uncoded.now ≡ 102 }
+    requires coded { length coded.now ≡ 180 }
+    ensures bits { bits.new ≡ whole_bits uncoded.now coded.now }
+    ensures size { length bits.new ≡ 282 }
+{
+    // The bits of both frames stand side by side here, in the order of their classes, and the parity bits at their place.
+    let sorted = joined(uncoded, coded);
+    *bits = sorted.copy();
+    for i in 0..137usize {
+        let place = class_place(i) - 1;
+        bits.set(place, sorted.get(2 * i));
+        bits.set(137 + place, sorted.get(2 * i + 1));
+    }
+}
+
+/// The 141 bits of half a slot by its 51 uncoded and its 90 coded bits: a frame and 4 parity bits. They are written into a
+/// list that is there.
+pub(crate) fn half_bits_into(uncoded: &Bits, coded: &Bits, bits: &mut Bits)
+    requires uncoded { length uncoded.now ≡ 51 }
+    requires coded { length coded.now ≡ 90 }
+    ensures bits { bits.new ≡ half_bits uncoded.now coded.now }
+    ensures size { length bits.new ≡ 141 }
+{
+    let sorted = joined(uncoded, coded);
+    *bits = sorted.copy();
+    for i in 0..137usize {
+        bits.set(class_place(i) - 1, sorted.get(i));
+    }
 }
 
 /// Two lists of one length alternating.
@@ -91,29 +104,12 @@ pub(crate) fn alternated(a: &Bits, b: &Bits) -> Bits
     ensures bits { result ≡ alternated a.now b.now }
     ensures size { length result ≡ 2 * length a.now }
 {
-    let mut both = Bits::new();
-    for i in 0..2 * a.len() {
-        both.push(if i % 2 == 0 {
-            a.get(i / 2)
-        } else {
-            b.get(i / 2)
-        });
+    let mut both = Bits::zeros(2 * a.len());
+    for i in 0..a.len() {
+        both.set(2 * i, a.get(i));
+        both.set(2 * i + 1, b.get(i));
     }
     both
-}
-
-/// Every second bit of an even number of them, from the first (0) or from the second (1).
-fn strand(from: usize, both: &Bits) -> Bits
-    requires from { from ≤ 1 }
-    requires even { 2 * (length both.now / 2) ≡ length both.now }
-    ensures bits { result ≡ strand from both.now }
-    ensures size { length result ≡ length both.now / 2 }
-{
-    let mut bits = Bits::new();
-    for i in 0..both.len() / 2 {
-        bits.push(both.get(2 * i + from));
-    }
-    bits
 }
 
 /// So many bits from the one at `from` on, which counts from 0.
@@ -122,10 +118,10 @@ pub fn part(bits: &Bits, from: usize, count: usize) -> Bits
     ensures bits { result ≡ take count (drop from bits.now) }
     ensures size { length result ≡ count }
 {
-    let mut part = Bits::new();
-    // `count` is never the greater one: the bound shows that the sum fits.
-    for i in 0..count.min(bits.len()) {
-        part.push(bits.get(from + i));
+    let _len = bits.len();
+    let mut part = Bits::zeros(count);
+    for i in 0..count {
+        part.set(i, bits.get(from + i));
     }
     part
 }
@@ -136,9 +132,11 @@ pub(crate) fn joined(first: &Bits, second: &Bits) -> Bits
     ensures bits { result ≡ first.now ++ second.now }
     ensures size { length result ≡ length first.now + length second.now }
 {
+    let front = first.len();
     let mut all = first.copy();
+    all.resize(front + second.len());
     for i in 0..second.len() {
-        all.push(second.get(i));
+        all.set(front + i, second.get(i));
     }
     all
 }

@@ -41,15 +41,15 @@ pub(crate) fn bits_at(places: &[usize], frame: &Bits) -> Bits
     ensures bits { result ≡ bits_at places.now frame.now }
     ensures size { length result ≡ length places.now }
 {
-    let mut bits = Bits::new();
+    let mut bits = Bits::zeros(places.len());
     for i in 0..places.len() {
-        bits.push(frame.get(places[i] - 1));
+        bits.set(i, frame.get(places[i] - 1));
     }
     bits
 }
 
 /// The place in the frame, numbered from 1, of bit `i`, counted from 0, of the three classes behind one another.
-fn class_place(i: usize) -> usize
+pub(crate) fn class_place(i: usize) -> usize
     requires { i < 137 }
     ensures value { result ≡ class_place (i + 1) }
     ensures within { (1 ≤ result) × (result ≤ 137) }

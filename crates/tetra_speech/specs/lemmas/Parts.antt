@@ -40,7 +40,7 @@ module _ {X : Type 0} (x y z : List X) (m n : ℕ) (lx : length x ≡ m) (ly : l
   third = drop_at (x ++ y) z (m + n) (length-append x y ∙ omega (arith, lx, ly))
 
 -- a list of three parts
-rejoined : {X : Type 0} (m n : ℕ) (l : List X) → take m l ++ take n (drop m l) ++ drop (m + n) l ≡ l
+pub rejoined : {X : Type 0} (m n : ℕ) (l : List X) → take m l ++ take n (drop m l) ++ drop (m + n) l ≡ l
 rejoined m n l =
     append_assoc (take m l) (take n (drop m l)) (drop (m + n) l)
     ∙ ap (λ r. take m l ++ (take n (drop m l) ++ r)) (sym (drop-drop n m l))
@@ -123,10 +123,10 @@ module _ (uncoded coded : List Bool) (lu : length uncoded ≡ 102) (lc : length 
   size_2 : length (take 60 (drop 112 coded)) ≡ 60
   size_2 = length-take-le 60 (drop 112 coded) (omega (arith, lc, length-drop 112 coded))
 
-  classes_from : ℕ → Classes
+  unfoldable pub classes_from : ℕ → Classes
   classes_from from = record { zero = strand from uncoded; one = strand from (take 112 coded); two = strand from (take 60 (drop 112 coded)) }
 
-  are_classes : (from : ℕ) → AreClasses (classes_from from)
+  pub are_classes : (from : ℕ) → AreClasses (classes_from from)
   unfolding classes_from
   are_classes from =
       record {

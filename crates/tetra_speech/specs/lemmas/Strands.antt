@@ -32,8 +32,19 @@ alternated_bit : (a b : List Bool) (k : ℕ) → k < 2 * length a → bit_at (al
 unfolding alternated
 alternated_bit a b k h = get_or-numbered (alternate a b) (2 * length a) k false h
 
+pub even_bit : (a b : List Bool) (k : ℕ) → k < length a → bit_at (alternated a b) (2 * k) ≡ bit_at a k
+even_bit a b k h =
+    let half : 2 * k / 2 ≡ k = omega arith in
+    alternated_bit a b (2 * k) (omega (arith, h)) ∙ sym (alternate_even a b (2 * k) (omega arith)) ∙ ap (bit_at a) half
+
+pub odd_bit : (a b : List Bool) (k : ℕ) → k < length a → bit_at (alternated a b) (2 * k + 1) ≡ bit_at b k
+odd_bit a b k h =
+    let half : (2 * k + 1) / 2 ≡ k = omega arith in
+    alternated_bit a b (2 * k + 1) (omega (arith, h))
+    ∙ sym (alternate_odd a b (2 * k + 1) (λ e. absurd (omega (arith, e)))) ∙ ap (bit_at b) half
+
 -- an entry of a strand
-strand_bit : (from : ℕ) (both : List Bool) (k : ℕ) → k < length both / 2 → bit_at (strand from both) k ≡ bit_at both (2 * k + from)
+pub strand_bit : (from : ℕ) (both : List Bool) (k : ℕ) → k < length both / 2 → bit_at (strand from both) k ≡ bit_at both (2 * k + from)
 unfolding strand
 strand_bit from both k h =
     let back : 2 * (k + 1 - 1) + from ≡ 2 * k + from = omega arith in

@@ -1,7 +1,10 @@
-use Rattle.std.proofs.Common.{◌≡◌}
-use Rattle.tetra_bits.specs.Numbered.{numbered}
-use Rattle.tetra_speech.specs.Frames.{alternate}
+use Rattle.std.proofs.Common.{◌≡◌, ◌*◌, false, length}
+use Rattle.tetra_speech.specs.Frames.{alternated}
+use Rattle.tetra_speech.proofs.Pieces.{IsFront}
 use Rattle.tetra_speech.proofs.frames.alternated.Given as goal
 
 abbrev pub invariant-loop-i : goal.invariant-loop-i
-invariant-loop-i l = l.both ≡ numbered (alternate l.a l.b) l.i
+invariant-loop-i l = record {
+  size : length l.both ≡ 2 * length l.a;
+  written : IsFront false (alternated l.a l.b) (2 * l.i) l.both;
+}

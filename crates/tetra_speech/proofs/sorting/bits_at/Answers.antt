@@ -1,31 +1,28 @@
-use Rattle.std.proofs.Common.{◌-◌, ◌++◌, ◌∷◌, [], length, take, arith, ap, sym, ◌∙◌}
-use Rattle.std.proofs.lemmas.List.{take_all, length-take-le, map_more}
+use Rattle.std.proofs.Common.{◌≡◌, ◌-◌, false, length, arith, sym, ◌∙◌}
+use Rattle.std.proofs.lemmas.List.{get_or-map}
 use Rattle.tetra_bits.specs.Order.{bit_at}
 use Rattle.tetra_speech.specs.Classes.{bits_at}
 use Rattle.tetra_speech.specs.lemmas.Sorted.{length-bits_at}
+use Rattle.tetra_speech.proofs.Pieces.{front_set, is_written}
 use Rattle.tetra_speech.proofs.sorting.bits_at.Goals as goal
-
-pub loop-i-init : goal.loop-i-init
-unfolding bits_at
-loop-i-init c = c.new-bits.ensures
-
-pub push-requires : goal.push-requires
-push-requires c =
-    let i = c.loop-i.i in
-    let places = c.args.places.now in
-    let l = ap length c.loop-i.invariant ∙ length-bits_at (take i places) c.args.frame.now ∙ length-take-le i places (omega arith) in
-    omega (arith, l, c.requires.few)
 
 pub loop-i-preserved : goal.loop-i-preserved
 unfolding bits_at
 loop-i-preserved c =
     let i = c.loop-i.i in
     let places = c.args.places.now in
-    c.push.ensures.list ∙ ap (λ bits. bits ++ c.get.result ∷ []) c.loop-i.invariant
-    ∙ ap (λ bit. bits_at (take i places) c.args.frame.now ++ bit ∷ []) c.get.ensures
-    ∙ sym (map_more (λ place. bit_at c.args.frame.now (place - 1)) places i 0 (omega arith))
+    let frame = c.args.frame.now in
+    record {
+      size = c.set.ensures.len ∙ c.loop-i.invariant.size;
+      written = front_set false (bits_at places frame) c.loop-i.bits c.set.new.self i c.get.result c.loop-i.invariant.written
+          c.set.ensures.list (omega (arith, c.loop-i.invariant.size))
+          (c.get.ensures ∙ sym (get_or-map (λ place. bit_at frame (place - 1)) places i 0 false (omega arith)));
+    }
 
-pub returns-clause-size : goal.returns-clause-size
-returns-clause-size c =
+pub returns-clause-bits : goal.returns-clause-bits
+returns-clause-bits c =
     let places = c.args.places.now in
-    ap length c.loop-i.invariant ∙ length-bits_at (take c.loop-i.i places) c.args.frame.now ∙ ap length (take_all c.loop-i.i places (omega arith))
+    let frame = c.args.frame.now in
+    let long : length (bits_at places frame) ≡ length places = length-bits_at places frame in
+    is_written false (bits_at places frame) c.loop-i.bits c.loop-i.i (c.loop-i.invariant.size ∙ sym long)
+    c.loop-i.invariant.written (omega (arith, long))

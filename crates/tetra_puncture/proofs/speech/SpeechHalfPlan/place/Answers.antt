@@ -1,6 +1,6 @@
-use Rattle.std.proofs.Common.{◌-◌, ◌%◌, arith}
-use Rattle.tetra_puncture.specs.lemmas.Speech.{at_half}
+use Rattle.std.proofs.Common.{◌∙◌}
+use Rattle.tetra_puncture.proofs.SpeechPlaces.{half_at}
 use Rattle.tetra_puncture.proofs.speech.SpeechHalfPlan.place.Goals as goal
 
-pub overflow_add-result-else-j-le84-2 : goal.overflow_add-result-else-j-le84-2
-overflow_add-result-else-j-le84-2 c = record { fits = omega (arith, at_half ((c.args.j - 85) % 17) (omega arith)) }
+pub returns : goal.returns
+returns c = c.from.ensures ∙ half_at c.args.j c.requires.first c.requires.last

@@ -1,4 +1,5 @@
 // The search for the first-least message, eight messages side by side: those that differ in their last three bits alone.
+// It goes through the bits in front from the likeliest on, and passes over those that cost more than what it has found.
 ghost use Rattle.std.specs.Prelude.{◌≡◌, ◌<◌, ◌≤◌, ◌+◌, ◌-◌, ◌*◌, ◌^◌, ℕ, List, length, slice_index};
 ghost use Rattle.tetra_bits.specs.Soft.{AllWithin};
 ghost use Rattle.tetra_rm.specs.Search.{AreSums, AreTables, IsLeastBelow, IsPart, FitLanes, key_in_middle, key_by_tables, key_of_number};

@@ -5,6 +5,7 @@ ghost use Rattle.tetra_channels.specs.Channels.{access_bits};
 ghost use Rattle.tetra_channels.specs.Fields.{access_reading};
 ghost use Rattle.tetra_channels.specs.Laws.{UndamagedAccessIsRead};
 
+use crate::potentials::drop_potentials;
 use tetra_bits::{Bits, Mark, Reading, Soft};
 use tetra_rm::{AccessCode, Rows, encode, message_bits, undamaged_arrives};
 use tetra_scramble::{Key, flip_bits_in_place, flipped_back, stays_undamaged};
@@ -52,7 +53,7 @@ impl Aach {
         reading.mark = Mark::Unchecked;
         reading.metric = read.metric;
         reading.bits = message_bits(read.message);
-        reading.potentials = None;
+        drop_potentials(&mut reading.potentials);
     }
 
     /// Values that have the signs of the type-5 bits of a message, none of them 0, are read as that message.

@@ -7,11 +7,13 @@ mod access;
 mod coded;
 mod laws;
 mod message;
+mod potentials;
 mod raw;
 
 pub use access::Aach;
 pub use coded::{Bsch, Coded, Data24, Data48, Full, Half, Hu};
 pub use laws::aliases_are_channels;
+pub use potentials::drop_potentials;
 pub use raw::Raw72;
 
 #[cfg(test)]

@@ -4,6 +4,7 @@ ghost use Rattle.tetra_channels.specs.Channels.{raw_bits};
 ghost use Rattle.tetra_channels.specs.Fields.{raw_reading};
 ghost use Rattle.tetra_channels.specs.Laws.{UndamagedRawIsRead, NoneWrongRawIsRead};
 
+use crate::potentials::drop_potentials;
 use tetra_bits::{Bits, Mark, Reading, Soft, read_plain};
 use tetra_scramble::{Key, flip_bits, flipped_back, stays_none_wrong, stays_undamaged};
 
@@ -46,7 +47,7 @@ impl Raw72 {
         reading.mark = Mark::Unchecked;
         reading.metric = 0;
         reading.bits = read_plain(soft);
-        reading.potentials = None;
+        drop_potentials(&mut reading.potentials);
     }
 
     /// Values that have the signs of the type-5 bits of a block, none of them 0, are read as that block.

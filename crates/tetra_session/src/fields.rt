@@ -21,7 +21,7 @@ use crate::tables::Tables;
 use arrayvec::ArrayVec;
 use tetra_bits::{Bits, Mark, Reading, Soft};
 use tetra_bursts::{Allowed, Train};
-use tetra_channels::{Aach, Bsch, Data24, Data48, Full, Half, Hu, Raw72};
+use tetra_channels::{Aach, Bsch, Data24, Data48, Full, Half, Hu, Raw72, drop_potentials};
 use tetra_rm::AccessCode;
 use tetra_scramble::{Key, flip_soft, flip_soft_into, zero_key};
 use tetra_settings::{Dir, Field, FieldName, Letter, Mode, Settings, SlotUse};
@@ -216,7 +216,7 @@ fn read_block(name: FieldName, code: &AccessCode, block: &Option<Soft>, reading:
             reading.mark = Mark::NotYet;
             reading.metric = 0;
             reading.bits = Bits::zeros(name.sizes().bits);
-            reading.potentials = None;
+            drop_potentials(&mut reading.potentials);
         }
     }
 }

@@ -4,4 +4,4 @@ use Rattle.tetra_session.proofs.fields.read_block.Goals as goal
 
 pub returns-in-None : goal.returns-in-None
 unfolding not_yet
-returns-in-None c = rw (c.in-None.is, c.zeros-reading.ensures, c.sizes.ensures.sizes) refl
+returns-in-None c = rw (c.in-None.is, c.zeros-reading.ensures, c.sizes.ensures.sizes, c.drop_potentials.ensures) refl

@@ -419,8 +419,7 @@ half_made u c bits lu lc e =
       two = length-take-le 30 (drop 56 c) (omega (arith, lc, length-drop 56 c));
     } in
     let three : length (u ++ one ++ two) ≡ 137 = length-classes cs are in
-    let lf : length (frame_of cs) ≡ 137 = length-frame_of cs in
-    (
+    let lf : length (frame_of cs) ≡ 137 = length-frame_of cs in (
       λ k h.
           let within = spot_within k h in
           ap (λ x. bit_at x (spot k)) (sym e)

@@ -36,7 +36,7 @@ pub fn uncoded_part(bits: &Bits) -> Bits
 }
 
 /// The 102 uncoded and behind them the 180 coded bits of the 282 of a whole slot.
-fn whole_sorted(bits: &Bits) -> Bits
+pub(crate) fn whole_sorted(bits: &Bits) -> Bits
     requires { length bits.now ≡ 282 }
     ensures bits { result ≡ whole_uncoded bits.now ++ whole_coded bits.now }
     ensures size { length result ≡ 282 }
@@ -52,7 +52,7 @@ fn whole_sorted(bits: &Bits) -> Bits
 }
 
 /// The 51 uncoded and behind them the 90 coded bits of the 141 of half a slot.
-fn half_sorted(bits: &Bits) -> Bits
+pub(crate) fn half_sorted(bits: &Bits) -> Bits
     requires { length bits.now ≡ 141 }
     ensures bits { result ≡ half_uncoded bits.now ++ half_coded bits.now }
     ensures size { length result ≡ 141 }

@@ -1,7 +1,7 @@
 // Frames to classes and back.
 ghost use Rattle.std.specs.Prelude.{◌≡◌, ◌≤◌, ◌<◌, ◌+◌, ◌++◌, length, All};
 ghost use Rattle.tetra_bits.specs.Order.{bit_at};
-ghost use Rattle.tetra_speech.specs.Classes.{class_place, bits_at, classes_of, frame_of};
+ghost use Rattle.tetra_speech.specs.Classes.{class_2, class_place, bits_at, classes_of, frame_of};
 ghost use Rattle.tetra_speech.specs.Laws.{AreClasses};
 
 use crate::tables::{CLASS_0, CLASS_1, CLASS_2, Classes};
@@ -18,6 +18,15 @@ pub fn classes(frame: &Bits) -> Classes
         one: bits_at(&CLASS_1, frame),
         two: bits_at(&CLASS_2, frame),
     }
+}
+
+/// The bits of class 2 of a frame of 137 bits.
+pub(crate) fn class_two(frame: &Bits) -> Bits
+    requires { length frame.now ≡ 137 }
+    ensures bits { result ≡ bits_at class_2 frame.now }
+    ensures size { length result ≡ 30 }
+{
+    bits_at(&CLASS_2, frame)
 }
 
 /// The frame of 137 bits that has these classes, of 51, 56 and 30 bits.

@@ -1,4 +1,4 @@
-use Rattle.std.proofs.Common.{◌≡◌, ◌-◌, ◌<◌, ◌++◌, length, arith, ap, sym, subst, ◌∙◌}
+use Rattle.std.proofs.Common.{◌≡◌, ◌-◌, ◌<◌, ◌++◌, arith, ap, sym, subst, ◌∙◌}
 use Rattle.tetra_bits.specs.Order.{bit_at}
 use Rattle.tetra_speech.specs.Frames.{half_uncoded, half_coded}
 use Rattle.tetra_speech.proofs.Sortings.{SortedOut, spot, out_none, out_more, out_all, half_sorted_is}

@@ -1,7 +1,7 @@
-use Rattle.std.proofs.Common.{◌≡◌, ℕ, ◌+◌, ◌-◌, ◌*◌, ◌<◌, ◌++◌, List, Bool, length, arith, ap, sym, subst, ◌∙◌}
+use Rattle.std.proofs.Common.{◌≡◌, ℕ, ◌+◌, ◌-◌, ◌*◌, ◌<◌, ◌++◌, arith, ap, sym, subst, ◌∙◌}
 use Rattle.tetra_bits.specs.Order.{bit_at}
 use Rattle.tetra_speech.specs.Frames.{whole_uncoded, whole_coded}
-use Rattle.tetra_speech.proofs.Sortings.{SortedOut, spot, spot_within, out_none, out_more, out_all, whole_sorted_is}
+use Rattle.tetra_speech.proofs.Sortings.{SortedOut, spot, out_none, out_more, out_all, whole_sorted_is}
 use Rattle.tetra_speech.proofs.frames.whole_sorted.Goals as goal
 
 pub loop-i-init : goal.loop-i-init

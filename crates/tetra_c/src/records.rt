@@ -39,7 +39,12 @@ fn form_of(certificates: u8) -> Form
 
 /// Puts the reading record of a front behind what stands in `out`, which has room for the longest one. One field is read
 /// at a time.
-fn add_front<const N: usize>(rows: &AccessCode, front: &Front, form: Form, out: &mut ArrayVec<u8, N>)
+fn add_front<const N: usize>(
+    rows: &AccessCode,
+    front: &Front,
+    form: Form,
+    out: &mut ArrayVec<u8, N>,
+)
     requires formed { IsFront front.now }
     requires room { array_vec_len out.old + 18743 ≤ N }
     ensures { out.new.items ≡ out.old.items ++ reading_spelling form (read_front rows.now.0 front.now) }
@@ -93,7 +98,12 @@ pub extern "C" fn tetra_receiver_record(
     let mut front = empty_front();
     match hear_next(receiver, slot, &mut front) {
         Ok(settings) => {
-            *written = put_record(&AccessCode::of(&settings.rows), &front, form_of(certificates), bytes);
+            *written = put_record(
+                &AccessCode::of(&settings.rows),
+                &front,
+                form_of(certificates),
+                bytes,
+            );
             0
         }
         Err(fault) => fault.number(),

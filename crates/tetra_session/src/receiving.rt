@@ -113,11 +113,7 @@ fn hear_slot<G: Gathers>(
         &mut work.scratch.type5,
         fields,
     );
-    let load = load_by_front(
-        letter,
-        mode_at(settings, turn),
-        &fields[..places.len()],
-    );
+    let load = load_by_front(letter, mode_at(settings, turn), &fields[..places.len()]);
     take_slot(settings, key, turn, lane, load, soft, work);
     hear_load(
         dir,

@@ -15,7 +15,17 @@ use std::test::Fail;
 pub fn bytes(alloc: Global, text: &str) -> Result<Vec<u8>, Fail> {
     let mut all = Vec::new(alloc);
     for word in text.split_whitespace() {
-        add_word(&mut all, word)?;
+        if let Some(position) = word.strip_prefix('~') {
+            turn(&mut all, position.parse::<usize>()?);
+        } else if let Some(line) = word.strip_prefix('\'') {
+            add_line(&mut all, line)?;
+        } else if !add_named(&mut all, word)? {
+            let (count, byte) = word.split_once('*').unwrap_or(("1", word));
+            let byte = u8::from_str_radix(byte, 16)?;
+            for _ in 0..count.parse::<usize>()? {
+                all.push(byte)?;
+            }
+        }
     }
     Ok(all)
 }
@@ -24,41 +34,16 @@ pub fn bytes(alloc: Global, text: &str) -> Result<Vec<u8>, Fail> {
 pub fn is_written(alloc: Global, text: &str, found: &[u8]) -> Result<bool, Fail> {
     let mut rest = found;
     for word in text.split_whitespace() {
-        match behind(alloc, word, rest)? {
+        let behind = match word.strip_suffix("*..") {
+            Some(count) => rest.get(count.parse::<usize>()?..),
+            None => rest.strip_prefix(bytes(alloc, word)?.as_slice()),
+        };
+        match behind {
             Some(behind) => rest = behind,
             None => return Ok(false),
         }
     }
     Ok(rest.is_empty())
-}
-
-/// What stands behind a word, where bytes begin with it.
-fn behind<'a>(alloc: Global, word: &str, found: &'a [u8]) -> Result<Option<&'a [u8]>, Fail> {
-    Ok(match word.strip_suffix("*..") {
-        Some(count) => found.get(count.parse::<usize>()?..),
-        None => found.strip_prefix(bytes(alloc, word)?.as_slice()),
-    })
-}
-
-fn add_word(all: &mut Vec<u8>, word: &str) -> Result<(), Fail> {
-    if let Some(position) = word.strip_prefix('~') {
-        turn(all, position.parse::<usize>()?);
-    } else if let Some(line) = word.strip_prefix('\'') {
-        add_line(all, line)?;
-    } else if !add_named(all, word)? {
-        add_times(all, word)?;
-    }
-    Ok(())
-}
-
-/// Adds a byte once, or as often as stands before it.
-fn add_times(all: &mut Vec<u8>, word: &str) -> Result<(), Fail> {
-    let (count, byte) = word.split_once('*').unwrap_or(("1", word));
-    let byte = u8::from_str_radix(byte, 16)?;
-    for _ in 0..count.parse::<usize>()? {
-        all.push(byte)?;
-    }
-    Ok(())
 }
 
 fn turn(all: &mut [u8], position: usize) {

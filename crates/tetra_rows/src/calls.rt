@@ -158,31 +158,35 @@ const LAST_ROW: &[u8; 30] = b"000000000000010001111101011111";
 fn access_words(rt: HostRuntime) {
     let word = encode(&own_rows(), 1);
     stand(&rt, &word, 0, LAST_ROW);
-    let nothing = decode(&own_rows(), &silent());
+    let nothing = decode(&own_rows(), &silent(&rt));
     assert!(rt; nothing.message == 0 && nothing.metric == 0);
-    let one = decode(&own_rows(), &heard(&word));
+    let one = decode(&own_rows(), &heard(&rt, &word));
     assert!(rt; one.message == 1 && one.metric == 0);
 }
 
 /// Thirty values that say nothing.
-fn silent() -> Soft
+fn silent(rt: &impl Abort) -> Soft
     ensures { length result ≡ 30 }
 {
     let mut soft = Soft::new();
     for _ in 0..30usize {
+        assert!(rt; soft.len() < 30);
         soft.push(0);
     }
+    assert!(rt; soft.len() == 30);
     soft
 }
 
 /// The values of bits that come undamaged.
-fn heard(word: &Bits) -> Soft
+fn heard(rt: &impl Abort, word: &Bits) -> Soft
     ensures { length result ≡ length word.now }
 {
     let mut soft = Soft::new();
     for k in 0..word.len() {
+        assert!(rt; k < word.len() && soft.len() < 432);
         soft.push(if word.get(k) { -127 } else { 127 });
     }
+    assert!(rt; soft.len() == word.len());
     soft
 }
 
@@ -229,7 +233,7 @@ fn four_blocks_spread_and_gathered(rt: HostRuntime) {
     let (mut spread, mut gather) = (Spread::<4>::new(), Gather::<4>::new());
     for m in 0..4usize {
         let word = spread.push(&one_at(&rt, 7 * m + 3));
-        match gather.push(&heard(&word)) {
+        match gather.push(&heard(&rt, &word)) {
             None => assert!(rt; m < 3),
             Some(values) => {
                 assert_eq!(rt; m, 3);

@@ -172,12 +172,22 @@ fn counted_of(alloc: Global, draw: u32) -> Result<String, Fail> {
     counted(alloc, &records, &readings)
 }
 
+/// Asserts that a summary says what is counted.
+fn is_counted(rt: &(impl Abort + AllocGlobal), draw: u32) -> Result<(), Fail> {
+    let summary = drawn(rt.alloc(), "trial", draw)?;
+    let wanted = counted_of(rt.alloc(), draw)?;
+    says(rt, str::from_utf8(&summary)?, &wanted, draw);
+    Ok(())
+}
+
+fn says(rt: &impl Abort, summary: &str, wanted: &str, draw: u32) {
+    assert_eq!(rt; summary, wanted, "draw {draw}");
+}
+
 #[test]
 fn summary_counted_from_the_files(rt: HostRuntime) -> Result<(), Fail> {
     for draw in 0..3u32 {
-        let summary = drawn(rt.alloc(), "trial", draw)?;
-        let wanted = counted_of(rt.alloc(), draw)?;
-        assert_eq!(rt; str::from_utf8(&summary)?, wanted.as_str(), "draw {draw}");
+        is_counted(&rt, draw)?;
     }
     Ok(())
 }

@@ -162,7 +162,8 @@ fn stands(
 
 /// Asserts that these are the first bytes of an output, so many of them.
 fn begins(rt: &impl Abort, output: &[u8], taken: usize, found: &[u8], words: &str) {
-    assert_eq!(rt; Some(found), output.get(..taken), "{words}");
+    let is_front = Some(found) == output.get(..taken);
+    assert!(rt; is_front, "{taken} bytes of {words}");
 }
 
 /// Asserts what stands where a read fails.

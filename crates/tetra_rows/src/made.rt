@@ -31,11 +31,8 @@ fn stands(
     let words = "gen slots=3";
     let ran = run_over(rt.alloc(), words, &[], ends, 200)?;
     ended(rt, &ran, end, words, "nothing");
-    assert_eq!(rt;
-        Some(ran.output.as_slice()),
-        made.get(..taken),
-        "call {write_fails}"
-    );
+    let is_front = Some(ran.output.as_slice()) == made.get(..taken);
+    assert!(rt; is_front, "call {write_fails}");
     Ok(())
 }
 
@@ -84,16 +81,16 @@ fn summaries_of_what_came_undamaged(rt: HostRuntime) -> Result<(), Fail> {
     )
 }
 
-/// The number behind a word in a summary.
-fn number_of(summary: &str, word: &str) -> Result<u64, Fail> {
+/// The number behind a word in a summary; the greatest where there is none.
+fn number_of(summary: &str, word: &str) -> u64 {
     for line in summary.lines() {
         if let Some((name, number)) = line.split_once(' ') {
             if name == word {
-                return Ok(number.parse::<u64>()?);
+                return number.parse::<u64>().unwrap_or(u64::MAX);
             }
         }
     }
-    Ok(u64::MAX)
+    u64::MAX
 }
 
 /// The summary of a trial of 1,000 slots, which ends well.
@@ -104,16 +101,14 @@ fn summary_of(rt: &(impl Abort + AllocGlobal), words: &str) -> Result<Vec<u8>, F
 }
 
 /// Asserts the number behind a word in a summary.
-fn counts(rt: &impl Abort, summary: &str, word: &str, number: u64) -> Result<(), Fail> {
-    assert_eq!(rt; number_of(summary, word)?, number, "{word}");
-    Ok(())
+fn counts(rt: &impl Abort, summary: &str, word: &str, number: u64) {
+    assert_eq!(rt; number_of(summary, word), number, "{word}");
 }
 
 /// Asserts that the numbers behind two words in a summary have the sum 1,000.
-fn share(rt: &impl Abort, summary: &str, one: &str, other: &str) -> Result<(), Fail> {
-    let (one, other) = (number_of(summary, one)?, number_of(summary, other)?);
-    assert_eq!(rt; one.checked_add(other), Some(1_000));
-    Ok(())
+fn share(rt: &impl Abort, summary: &str, one: &str, other: &str) {
+    let sum = number_of(summary, one).saturating_add(number_of(summary, other));
+    assert!(rt; sum == 1_000, "{one} and {other}");
 }
 
 #[test]
@@ -121,19 +116,19 @@ fn summary_of_one_turned_sign_in_each_slot(rt: HostRuntime) -> Result<(), Fail> 
     let words = "trial dir=ul slots=1000 damage=1";
     let first = summary_of(&rt, words)?;
     assert!(rt; first.as_slice() == summary_of(&rt, words)?.as_slice());
-    is_of_turned_signs(&rt, str::from_utf8(&first)?)
+    is_of_turned_signs(&rt, str::from_utf8(&first)?);
+    Ok(())
 }
 
 /// Asserts what is known of the summary.
-fn is_of_turned_signs(rt: &impl Abort, text: &str) -> Result<(), Fail> {
-    counts(rt, text, "slots", 1_000)?;
-    counts(rt, text, "kinds", 1_000)?;
-    counts(rt, text, "unchecked", 0)?;
-    counts(rt, text, "notyet", 0)?;
-    counts(rt, text, "other", 0)?;
-    share(rt, text, "good", "bad")?;
-    share(rt, text, "equal", "differ")?;
-    let metric = number_of(text, "metric")?;
+fn is_of_turned_signs(rt: &impl Abort, text: &str) {
+    counts(rt, text, "slots", 1_000);
+    counts(rt, text, "kinds", 1_000);
+    counts(rt, text, "unchecked", 0);
+    counts(rt, text, "notyet", 0);
+    counts(rt, text, "other", 0);
+    share(rt, text, "good", "bad");
+    share(rt, text, "equal", "differ");
+    let metric = number_of(text, "metric");
     assert!(rt; metric % 127 == 0 && metric <= 127_000 && metric > 0);
-    Ok(())
 }

@@ -487,7 +487,7 @@ fn begins(rt: &(impl Abort + AllocGlobal), words: &str, front: &str) -> Result<(
     let front = bytes(rt.alloc(), front)?;
     let ran = run_over(rt.alloc(), words, &input, SURE, 510)?;
     let sent = ran.output.get(38..).unwrap_or(&[]);
-    assert_eq!(rt; sent.get(..front.len()), Some(front.as_slice()), "{words}");
+    assert!(rt; sent.starts_with(&front), "{words}");
     Ok(())
 }
 

@@ -1,7 +1,5 @@
 // Values of single steps that were worked out by hand: rows of the trellis, and one turn of the walk over the messages of
 // the access code.
-ghost use Rattle.std.specs.Prelude.{◌≡◌, ◌≤ℤ◌, pos, negsuc, length};
-
 use std::process::Abort;
 use tetra_bits::{Soft, Wide};
 use tetra_mother::Quarter;
@@ -11,25 +9,21 @@ use tetra_rm::{decode, own_rows};
 use tetra_trellis::lanes::lane_row;
 
 /// The values of 80 steps, zeros but for the first of the last four.
-fn values(value: i16) -> Wide
-    requires least { negsuc 126 ≤ℤ value }
-    requires greatest { value ≤ℤ pos 127 }
-    ensures { length result ≡ 320 }
-{
+fn values(rt: &impl Abort, value: i16) -> Wide {
     let mut wide = Wide::new();
     for k in 0..320usize {
-        wide.push(if k == 316 { value } else { 0 });
+        let one = if k == 316 { value } else { 0 };
+        assert!(rt; wide.len() < 320 && -127 <= one && one <= 127);
+        wide.push(one);
     }
     wide
 }
 
 /// The row before the last step of 80, which takes bit 0 alone, over this value of the first of its four places and zeros
 /// of the others.
-fn row_before_last(rt: &impl Abort, value: i16, after: &[u32; 16]) -> [u32; 16]
-    requires least { negsuc 126 ≤ℤ value }
-    requires greatest { value ≤ℤ pos 127 }
-{
-    let wide = values(value);
+fn row_before_last(rt: &impl Abort, value: i16, after: &[u32; 16]) -> [u32; 16] {
+    let wide = values(rt, value);
+    assert!(rt; wide.len() == 320);
     for s in 0..16usize {
         assert!(rt; after[s] <= 1 << 31);
     }

@@ -1,7 +1,7 @@
 // Blocks that were worked out by hand, sent and read back: that the letters of both directions, their layouts and their
 // lengths are the ones that are written down.
 use crate::bytes::bytes;
-use crate::runs::{Outcome, SURE, ended, run_over, wrote};
+use crate::runs::{Outcome, SURE, ended, ran_to, run_over, wrote};
 use std::alloc::{AllocError, Global};
 use std::process::Abort;
 use std::test::Fail;
@@ -235,7 +235,6 @@ fn claim_off_its_path(rt: &(impl Abort + AllocGlobal)) -> Result<Vec<u8>, Fail> 
 fn certificate_off_the_path_of_its_message(rt: HostRuntime) -> Result<(), Fail> {
     let claim = claim_off_its_path(&rt)?;
     let words = "audit dir=ul";
-    let judged = run_over(rt.alloc(), words, &claim, SURE, 100)?;
-    ended(&rt, &judged, "0 1 ", words, "a claim");
+    let judged = ran_to(&rt, words, &claim, 100, "0 1 ")?;
     wrote(&rt, &judged, "'0_ok", words, "a claim")
 }

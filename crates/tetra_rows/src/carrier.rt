@@ -244,13 +244,12 @@ impl Carrier {
         Ok(())
     }
 
-    /// The blocks of so many half slots: puts them into the record, and what is read of them behind a letter.
+    /// Draws the blocks of so many half slots.
     fn draw_halves(
         &mut self,
         alloc: Global,
         pcg: &mut Pcg32,
         count: usize,
-        front: &mut Vec<u8>,
     ) -> Result<[[bool; 124]; 2], AllocError>
         requires { count ≤ 2 }
     {
@@ -259,7 +258,6 @@ impl Carrier {
             let packed = drawn(alloc, pcg, 124)?;
             self.blocks.extend_from_slice(&packed)?;
             halves[half] = unpacked::<124>(&packed);
-            add_good(front, &halves[half])?;
         }
         Ok(halves)
     }
@@ -275,8 +273,7 @@ impl Carrier {
     ) -> Result<(), AllocError> {
         let count = stolen_halves(letter);
         self.blocks.push(letter)?;
-        let mut front = Vec::from_slice(alloc, &[if count == 0 { b'T' } else { b'P' }])?;
-        let halves = self.draw_halves(alloc, pcg, count, &mut front)?;
+        let halves = self.draw_halves(alloc, pcg, count)?;
         let load = drawn(alloc, pcg, timeslot.traffic.load_bits(letter))?;
         self.blocks.extend_from_slice(&load)?;
         let mut type5 = timeslot.send(letter, load, scrambling)?;
@@ -286,12 +283,23 @@ impl Carrier {
         // The second half of P, and of Q on speech the frame, are read of what is sent for something else.
         let open = count == 1 || (count == 2 && is_speech);
         self.readings.push(Known {
-            front,
+            front: front_of(alloc, count, &halves)?,
             open: if open { 21 } else { 0 },
             load: timeslot.known(alloc)?,
         })?;
         Ok(())
     }
+}
+
+/// The first bytes of a reading record: its letter, and what is read of so many half slots.
+fn front_of(alloc: Global, count: usize, halves: &[[bool; 124]; 2]) -> Result<Vec<u8>, AllocError>
+    requires { count ≤ 2 }
+{
+    let mut front = Vec::from_slice(alloc, &[if count == 0 { b'T' } else { b'P' }])?;
+    for half in 0..count {
+        add_good(&mut front, &halves[half])?;
+    }
+    Ok(front)
 }
 
 /// How many halves are stolen of a slot of this letter.

@@ -1,7 +1,7 @@
 // Blocks of drawn bits, sent and judged both ways: the code beside plain sums, the certificates and the verdicts beside
 // plain rules.
 use crate::plain::{code, rules};
-use crate::runs::{Outcome, SURE, ended, run_over};
+use crate::runs::{Outcome, SURE, ran_to, run_over};
 use rand_core::utils::NextWord;
 use rand_pcg::Pcg32;
 use std::alloc::{AllocError, Global};
@@ -80,8 +80,7 @@ fn are_sums(
     scrambling: &[bool; 464],
 ) -> Result<(), Fail> {
     let input = records(rt.alloc(), full, load)?;
-    let ran = run_over(rt.alloc(), words, &input, SURE, 1_020)?;
-    ended(rt, &ran, "0 2 ", words, "drawn blocks");
+    let ran = ran_to(rt, words, &input, 1_020, "0 2 ")?;
     is_slot(
         rt,
         &signalling(full, scrambling),

@@ -1,17 +1,14 @@
 // Runs that read nothing: lengths of what `gen` writes, and summaries of `trial` that were worked out by hand.
-use crate::runs::{Ends, SURE, ended, run_over, wrote};
+use crate::runs::{Ends, SURE, ended, ran_to, run_over, wrote};
 use std::process::Abort;
 use std::test::Fail;
 
 #[test]
 fn records_of_a_number(rt: HostRuntime) -> Result<(), Fail> {
     let words = "gen dir=ul slots=3";
-    let made = run_over(rt.alloc(), words, &[], SURE, 200)?;
-    ended(&rt, &made, "0 3 ", words, "nothing");
+    let made = ran_to(&rt, words, &[], 200, "0 3 ")?;
     wrote(&rt, &made, "46 34*.. 46 34*.. 46 34*..", words, "nothing")?;
-    let words = "encode dir=ul";
-    let sent = run_over(rt.alloc(), words, &made.output, SURE, 2_000)?;
-    ended(&rt, &sent, "0 3 ", words, "what was made");
+    let sent = ran_to(&rt, "encode dir=ul", &made.output, 2_000, "0 3 ")?;
     assert_eq!(rt; sent.output.len(), 1_530);
     Ok(())
 }
@@ -59,8 +56,7 @@ fn is_summed_up(
     summary: &str,
     end: &str,
 ) -> Result<(), Fail> {
-    let ran = run_over(rt.alloc(), words, &[], SURE, 400)?;
-    ended(rt, &ran, end, words, "nothing");
+    let ran = ran_to(rt, words, &[], 400, end)?;
     wrote(rt, &ran, summary, words, "nothing")
 }
 
@@ -95,9 +91,7 @@ fn number_of(summary: &str, word: &str) -> u64 {
 
 /// The summary of a trial of 1,000 slots, which ends well.
 fn summary_of(rt: &(impl Abort + AllocGlobal), words: &str) -> Result<Vec<u8>, Fail> {
-    let ran = run_over(rt.alloc(), words, &[], SURE, 400)?;
-    ended(rt, &ran, "0 1000 ", words, "nothing");
-    Ok(ran.output)
+    Ok(ran_to(rt, words, &[], 400, "0 1000 ")?.output)
 }
 
 /// Asserts the number behind a word in a summary.

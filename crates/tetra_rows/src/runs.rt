@@ -79,6 +79,19 @@ pub fn ended(rt: &impl Abort, ran: &Outcome, end: &str, words: &str, input: &str
     assert_eq!(rt; ran.end.as_str(), end, "{words} of {input}");
 }
 
+/// A run that moves whole pieces; asserts how it ended. Its words name it.
+pub fn ran_to(
+    rt: &(impl Abort + AllocGlobal),
+    words: &str,
+    input: &[u8],
+    room: usize,
+    end: &str,
+) -> Result<Outcome, Fail> {
+    let ran = run_over(rt.alloc(), words, input, SURE, room)?;
+    ended(rt, &ran, end, words, "made bytes");
+    Ok(ran)
+}
+
 /// Asserts what a run wrote, in the notation of `bytes`. Its words and its input name it.
 pub fn wrote(
     rt: &(impl Abort + AllocGlobal),

@@ -1,7 +1,7 @@
 // Traffic on all timeslots, over slots that cross frame 18, beside the formulas: what is sent, what is read of it, and that
 // its certificates are accepted.
 use crate::carrier::{Carrier, Timeslot, Traffic};
-use crate::runs::{SURE, ended, run_over};
+use crate::runs::ran_to;
 use std::alloc::{AllocError, Global};
 use std::process::Abort;
 use std::test::Fail;
@@ -21,9 +21,7 @@ fn written(
 ) -> Result<Vec<u8>, Fail> {
     let words = format!(in rt.alloc(); "{command} dir=ul mcc=901 mnc=16383 cc=1 {modes}")?;
     let end = format!(in rt.alloc(); "0 {slots} ")?;
-    let ran = run_over(rt.alloc(), &words, input, SURE, room)?;
-    ended(rt, &ran, &end, &words, "a drawn carrier");
-    Ok(ran.output)
+    Ok(ran_to(rt, &words, input, room, &end)?.output)
 }
 
 /// Whether the bytes of a slot are as they are known.

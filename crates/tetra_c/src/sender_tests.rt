@@ -1,8 +1,10 @@
 // A sender as C calls it: each export, and each answer that it has.
+use crate::receiver_tests::is;
 use crate::sender::{tetra_sender_init, tetra_sender_slot};
 use crate::{
     TetraBlocks, TetraColour, TetraKeptBlock, TetraKeptBlocks, TetraSender, TetraSettings,
 };
+use std::process::Abort;
 
 /// Signalling, TCH/7.2, TCH/4.8 over eight slots and control bursts.
 const SETTINGS: TetraSettings = TetraSettings {
@@ -41,66 +43,92 @@ fn one_field(letter: u8, bits: u16) -> TetraBlocks {
     }
 }
 
+/// Asserts what the beginning of a sender answers.
+fn begins(rt: &impl Abort, sender: &mut TetraSender, settings: &TetraSettings, wanted: i64) {
+    is(
+        rt,
+        i64::from(tetra_sender_init(sender, settings)),
+        wanted,
+        "begun",
+    );
+}
+
 #[test]
 fn settings_that_are_refused(rt: HostRuntime) {
     let mut sender = any_sender();
     let mut settings = SETTINGS;
     settings.direction = 0;
-    assert_eq!(rt; tetra_sender_init(&mut sender, &settings), -4);
+    begins(&rt, &mut sender, &settings, -4);
     settings.at = 4320;
     settings.direction = 1;
-    assert_eq!(rt; tetra_sender_init(&mut sender, &settings), -5);
+    begins(&rt, &mut sender, &settings, -5);
     settings.colour.cc = 64;
-    assert_eq!(rt; tetra_sender_init(&mut sender, &settings), -3);
-    assert_eq!(rt; sender.turn, 9);
+    begins(&rt, &mut sender, &settings, -3);
+    is(&rt, i64::from(sender.turn), 9, "its turn");
+}
+
+/// Asserts what a sender answers to blocks.
+fn sends(
+    rt: &impl Abort,
+    sender: &mut TetraSender,
+    blocks: &TetraBlocks,
+    slot: &mut [u8; 510],
+    wanted: i64,
+) {
+    is(
+        rt,
+        i64::from(tetra_sender_slot(sender, blocks, slot)),
+        wanted,
+        "a slot",
+    );
+}
+
+/// The second half of a control slot.
+fn second_control() -> TetraBlocks {
+    let mut blocks = one_field(b'C', 0);
+    blocks.sends_second = 1;
+    blocks.bits[1] = 92;
+    blocks
 }
 
 #[test]
 fn slots_one_by_one(rt: HostRuntime) {
     let mut sender = any_sender();
     let mut slot = [0; 510];
-    assert_eq!(rt; tetra_sender_init(&mut sender, &SETTINGS), 0);
-    assert_eq!(rt;
-        tetra_sender_slot(&mut sender, &one_field(b'F', 268), &mut slot),
-        0
+    begins(&rt, &mut sender, &SETTINGS, 0);
+    sends(&rt, &mut sender, &one_field(b'F', 268), &mut slot, 0);
+    sends(&rt, &mut sender, &one_field(b'F', 268), &mut slot, -8);
+    sends(&rt, &mut sender, &one_field(b'T', 432), &mut slot, 0);
+    sends(&rt, &mut sender, &one_field(b'T', 288), &mut slot, 0);
+    is(&rt, i64::from(sender.turn), 3, "its turn");
+    is(
+        &rt,
+        i64::from(sender.lanes[1].count),
+        0,
+        "kept of the second timeslot",
     );
-    assert_eq!(rt;
-        tetra_sender_slot(&mut sender, &one_field(b'F', 268), &mut slot),
-        -8
+    is(
+        &rt,
+        i64::from(sender.lanes[2].count),
+        1,
+        "kept of the third timeslot",
     );
-    assert_eq!(rt;
-        tetra_sender_slot(&mut sender, &one_field(b'T', 432), &mut slot),
-        0
-    );
-    assert_eq!(rt;
-        tetra_sender_slot(&mut sender, &one_field(b'T', 288), &mut slot),
-        0
-    );
-    assert_eq!(rt;
-        (sender.turn, sender.lanes[1].count, sender.lanes[2].count),
-        (3, 0, 1)
-    );
-    let mut blocks = one_field(b'C', 0);
-    blocks.sends_second = 1;
-    blocks.bits[1] = 92;
-    assert_eq!(rt; tetra_sender_slot(&mut sender, &blocks, &mut slot), 0);
-    assert_eq!(rt; (slot[0], slot[509]), (0, 0));
+    sends(&rt, &mut sender, &second_control(), &mut slot, 0);
+    is(&rt, i64::from(slot[0]), 0, "the first byte");
+    is(&rt, i64::from(slot[509]), 0, "the last byte");
 }
 
 #[test]
 fn slots_that_are_refused(rt: HostRuntime) {
     let mut sender = any_sender();
     let mut slot = [5; 510];
-    assert_eq!(rt;
-        tetra_sender_slot(&mut sender, &one_field(b'F', 433), &mut slot),
-        -1
-    );
+    sends(&rt, &mut sender, &one_field(b'F', 433), &mut slot, -1);
     let mut blocks = one_field(b'F', 268);
     blocks.fields[0][267] = 2;
-    assert_eq!(rt; tetra_sender_slot(&mut sender, &blocks, &mut slot), -2);
+    sends(&rt, &mut sender, &blocks, &mut slot, -2);
     blocks.fields[0][267] = 0;
-    assert_eq!(rt; tetra_sender_slot(&mut sender, &blocks, &mut slot), -7);
+    sends(&rt, &mut sender, &blocks, &mut slot, -7);
     sender.turn = 16_777_216;
-    assert_eq!(rt; tetra_sender_slot(&mut sender, &blocks, &mut slot), -6);
-    assert_eq!(rt; slot[0], 5);
+    sends(&rt, &mut sender, &blocks, &mut slot, -6);
+    is(&rt, i64::from(slot[0]), 5, "the first byte");
 }

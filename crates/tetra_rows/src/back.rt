@@ -1,7 +1,8 @@
 // Blocks that were worked out by hand, sent and read back: that the letters of both directions, their layouts and their
 // lengths are the ones that are written down.
-use crate::bytes::{bytes, is_written};
-use crate::runs::{SURE, run_over};
+use crate::bytes::bytes;
+use crate::runs::{Outcome, SURE, ended, ran_to, run_over, wrote};
+use std::alloc::{AllocError, Global};
 use std::process::Abort;
 use std::test::Fail;
 
@@ -122,39 +123,40 @@ struct Sizes {
     read: usize,
 }
 
+/// The run of a command with the words of a row; asserts that it ends done.
+fn ran(
+    rt: &(impl Abort + AllocGlobal),
+    command: &str,
+    row: &Back<'_>,
+    input: &[u8],
+) -> Result<Outcome, Fail> {
+    let words = format!(in rt.alloc(); "{command} {}", row.words)?;
+    let end = format!(in rt.alloc(); "0 {} ", row.slots)?;
+    let ran = run_over(rt.alloc(), &words, input, SURE, 40_000)?;
+    ended(rt, &ran, &end, &words, row.blocks);
+    Ok(ran)
+}
+
+/// Asserts that what is sent are so many slots.
+fn fills(rt: &impl Abort, sent: &[u8], row: &Back<'_>) {
+    assert_eq!(rt;
+        sent.len() / 510,
+        row.slots,
+        "{} of {}",
+        row.words,
+        row.blocks
+    );
+}
+
 /// Asserts that the blocks are sent and read back as they should be.
 fn holds(rt: &(impl Abort + AllocGlobal), row: &Back<'_>) -> Result<Sizes, Fail> {
     let blocks = bytes(rt.alloc(), row.blocks)?;
-    let end = format!(in rt.alloc(); "0 {} ", row.slots)?;
-    let words = format!(in rt.alloc(); "encode {}", row.words)?;
-    let sent = run_over(rt.alloc(), &words, &blocks, SURE, 40_000)?;
-    assert_eq!(rt;
-        sent.end.as_str(),
-        end.as_str(),
-        "{words} of {}",
-        row.blocks
-    );
-    assert_eq!(rt;
-        sent.output.len() / 510,
-        row.slots,
-        "{words} of {}",
-        row.blocks
-    );
-    let words = format!(in rt.alloc(); "decode {}", row.words)?;
-    let read = run_over(rt.alloc(), &words, &sent.output, SURE, 20_000)?;
-    assert_eq!(rt;
-        read.end.as_str(),
-        end.as_str(),
-        "{words} of {}",
-        row.blocks
-    );
-    assert!(rt;
-        is_written(rt.alloc(), row.readings, &read.output)?,
-        "{words} of {}",
-        row.blocks
-    );
+    let sent = ran(rt, "encode", row, &blocks)?.output;
+    fills(rt, &sent, row);
+    let read = ran(rt, "decode", row, &sent)?;
+    wrote(rt, &read, row.readings, row.words, row.blocks)?;
     Ok(Sizes {
-        sent: sent.output.len(),
+        sent: sent.len(),
         read: read.output.len(),
     })
 }
@@ -190,41 +192,49 @@ fn records(slot: usize) -> (&'static str, &'static str) {
     }
 }
 
-#[test]
-fn a_multiframe_of_a_carrier(rt: HostRuntime) -> Result<(), Fail> {
-    let (mut blocks, mut readings) = (String::new(rt.alloc()), String::new(rt.alloc()));
+/// The block records and the reading records of a multiframe.
+fn multiframe(alloc: Global) -> Result<(String, String), AllocError> {
+    let (mut blocks, mut readings) = (String::new(alloc), String::new(alloc));
     for slot in 0..72usize {
         let (block, reading) = records(slot);
         blocks.push_str(block)?;
         readings.push_str(reading)?;
     }
-    assert_eq!(rt; bytes(rt.alloc(), &blocks)?.len(), 3_044);
-    let sizes = holds(
-        &rt,
-        &Back {
-            words: "mcc=901 mnc=16383 cc=1 ts2=d48n4 ts3=speech ts4=d72",
-            blocks: &blocks,
-            readings: &readings,
-            slots: 72,
-        },
-    )?;
-    assert_eq!(rt; (sizes.sent, sizes.read), (36_720, 3_565));
-    Ok(())
+    Ok((blocks, readings))
 }
 
 #[test]
-fn certificate_off_the_path_of_its_message(rt: HostRuntime) -> Result<(), Fail> {
-    let alloc = rt.alloc();
-    let slot = bytes(alloc, "full")?;
-    let mut claim = run_over(alloc, "decode dir=ul form=audit", &slot, SURE, 10_000)?.output;
+fn a_multiframe_of_a_carrier(rt: HostRuntime) -> Result<(), Fail> {
+    let (blocks, readings) = multiframe(rt.alloc())?;
+    assert_eq!(rt; bytes(rt.alloc(), &blocks)?.len(), 3_044);
+    let row = Back {
+        words: "mcc=901 mnc=16383 cc=1 ts2=d48n4 ts3=speech ts4=d72",
+        blocks: &blocks,
+        readings: &readings,
+        slots: 72,
+    };
+    let sizes = holds(&rt, &row)?;
+    assert!(rt; sizes.sent == 36_720 && sizes.read == 3_565);
+    Ok(())
+}
+
+/// The record of `full` with its certificate, in which bytes 552 to 581 are zeros.
+fn claim_off_its_path(rt: &(impl Abort + AllocGlobal)) -> Result<Vec<u8>, Fail> {
+    let slot = bytes(rt.alloc(), "full")?;
+    let mut claim = run_over(rt.alloc(), "decode dir=ul form=audit", &slot, SURE, 10_000)?.output;
     assert_eq!(rt; claim.len(), 9_798);
     for place in 552..582usize {
         if let Some(byte) = claim.get_mut(place) {
             *byte = 0;
         }
     }
-    let judged = run_over(alloc, "audit dir=ul", &claim, SURE, 100)?;
-    assert_eq!(rt; judged.end.as_str(), "0 1 ");
-    assert!(rt; is_written(alloc, "'0_ok", &judged.output)?);
-    Ok(())
+    Ok(claim)
+}
+
+#[test]
+fn certificate_off_the_path_of_its_message(rt: HostRuntime) -> Result<(), Fail> {
+    let claim = claim_off_its_path(&rt)?;
+    let words = "audit dir=ul";
+    let judged = ran_to(&rt, words, &claim, 100, "0 1 ")?;
+    wrote(&rt, &judged, "'0_ok", words, "a claim")
 }

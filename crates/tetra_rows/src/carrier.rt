@@ -48,36 +48,30 @@ enum Load {
 impl Load {
     /// What stands behind a load that is as it is known, in the bytes from its first one on.
     fn behind<'a>(&self, found: &'a [u8], after_good: bool) -> Option<&'a [u8]> {
+        let (mark, size) = match self {
+            Load::Absent => return Some(found),
+            Load::Exactly(mark, bits) => (*mark, bits.len()),
+            Load::UnlessGood(bits) | Load::UpTo(bits) => (b'U', bits.len()),
+            Load::Frames(frames, _) => (b'G', frames.saturating_mul(18)),
+        };
+        let (read, behind) = found.strip_prefix(&[mark, 0, 0])?.split_at_checked(size)?;
+        if self.allows(read, after_good) {
+            Some(behind)
+        } else {
+            None
+        }
+    }
+
+    /// Whether the bits of a load are as they are known.
+    fn allows(&self, read: &[u8], after_good: bool) -> bool {
         match self {
-            Load::Absent => Some(found),
-            Load::Exactly(mark, bits) => found.strip_prefix(&[*mark, 0, 0])?.strip_prefix(bits),
-            Load::UnlessGood(bits) => {
-                let (read, behind) = found
-                    .strip_prefix(&[b'U', 0, 0])?
-                    .split_at_checked(bits.len())?;
-                let same = if after_good {
-                    read.iter().all(|byte| *byte == 0)
-                } else {
-                    read == bits.as_slice()
-                };
-                if same { Some(behind) } else { None }
-            }
-            Load::UpTo(bits) => {
-                let (read, behind) = found
-                    .strip_prefix(&[b'U', 0, 0])?
-                    .split_at_checked(bits.len())?;
-                if is_up_to(read, bits) {
-                    Some(behind)
-                } else {
-                    None
-                }
-            }
+            Load::Absent => true,
+            Load::Exactly(_, bits) => read == bits.as_slice(),
+            Load::UnlessGood(_) if after_good => read.iter().all(|byte| *byte == 0),
+            Load::UnlessGood(bits) => read == bits.as_slice(),
+            Load::UpTo(bits) => is_up_to(read, bits),
             Load::Frames(frames, bits) => {
-                let (read, behind) = found
-                    .strip_prefix(&[b'G', 0, 0])?
-                    .split_at_checked(frames.saturating_mul(18))?;
-                let same = (0..frames.saturating_mul(137)).all(|k| bit(read, k) == bit(bits, k));
-                if same { Some(behind) } else { None }
+                (0..frames.saturating_mul(137)).all(|k| bit(read, k) == bit(bits, k))
             }
         }
     }
@@ -250,6 +244,24 @@ impl Carrier {
         Ok(())
     }
 
+    /// Draws the blocks of so many half slots.
+    fn draw_halves(
+        &mut self,
+        alloc: Global,
+        pcg: &mut Pcg32,
+        count: usize,
+    ) -> Result<[[bool; 124]; 2], AllocError>
+        requires { count ≤ 2 }
+    {
+        let mut halves = [[false; 124]; 2];
+        for half in 0..count {
+            let packed = drawn(alloc, pcg, 124)?;
+            self.blocks.extend_from_slice(&packed)?;
+            halves[half] = unpacked::<124>(&packed);
+        }
+        Ok(halves)
+    }
+
     /// A traffic slot.
     fn carry(
         &mut self,
@@ -259,36 +271,58 @@ impl Carrier {
         letter: u8,
         scrambling: &[bool; 464],
     ) -> Result<(), AllocError> {
-        let count = match letter {
-            b'P' => 1,
-            b'Q' => 2,
-            _ => 0,
-        };
+        let count = stolen_halves(letter);
         self.blocks.push(letter)?;
-        let mut front = Vec::from_slice(alloc, &[if count == 0 { b'T' } else { b'P' }])?;
-        let mut halves = [[false; 124]; 2];
-        for half in 0..count {
-            let packed = drawn(alloc, pcg, 124)?;
-            self.blocks.extend_from_slice(&packed)?;
-            halves[half] = unpacked::<124>(&packed);
-            add_good(&mut front, &halves[half])?;
-        }
+        let halves = self.draw_halves(alloc, pcg, count)?;
         let load = drawn(alloc, pcg, timeslot.traffic.load_bits(letter))?;
         self.blocks.extend_from_slice(&load)?;
         let mut type5 = timeslot.send(letter, load, scrambling)?;
-        for half in 0..count {
-            stolen::steal(&mut type5, half, &halves[half], scrambling);
-        }
+        steal_halves(&mut type5, count, &halves, scrambling);
         let is_speech = timeslot.traffic == Traffic::Speech;
         self.slots.push(sent(&type5, count, is_speech))?;
         // The second half of P, and of Q on speech the frame, are read of what is sent for something else.
         let open = count == 1 || (count == 2 && is_speech);
         self.readings.push(Known {
-            front,
+            front: front_of(alloc, count, &halves)?,
             open: if open { 21 } else { 0 },
             load: timeslot.known(alloc)?,
         })?;
         Ok(())
+    }
+}
+
+/// The first bytes of a reading record: its letter, and what is read of so many half slots.
+fn front_of(alloc: Global, count: usize, halves: &[[bool; 124]; 2]) -> Result<Vec<u8>, AllocError>
+    requires { count ≤ 2 }
+{
+    let mut front = Vec::from_slice(alloc, &[if count == 0 { b'T' } else { b'P' }])?;
+    for half in 0..count {
+        add_good(&mut front, &halves[half])?;
+    }
+    Ok(front)
+}
+
+/// How many halves are stolen of a slot of this letter.
+fn stolen_halves(letter: u8) -> usize
+    ensures { result ≤ 2 }
+{
+    match letter {
+        b'P' => 1,
+        b'Q' => 2,
+        _ => 0,
+    }
+}
+
+fn steal_halves(
+    type5: &mut [bool; 432],
+    count: usize,
+    halves: &[[bool; 124]; 2],
+    scrambling: &[bool; 464],
+)
+    requires { count ≤ 2 }
+{
+    for half in 0..count {
+        stolen::steal(type5, half, &halves[half], scrambling);
     }
 }
 

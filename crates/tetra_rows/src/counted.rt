@@ -118,10 +118,6 @@ fn counted(alloc: Global, records: &[u8], readings: &[u8]) -> Result<String, Fai
         let (block_size, read_size) = sizes(*letter);
         let (sent, more) = cut(behind, block_size);
         let (read, rest) = cut(found, read_size.saturating_add(1));
-        let heard = if *letter == b'Q' { b'P' } else { *letter };
-        if read.first() == Some(&heard) {
-            raise(&mut counts.kinds, 1);
-        }
         if *letter != b'F' {
             loads.push(load_of(sent))?;
         }
@@ -129,15 +125,22 @@ fn counted(alloc: Global, records: &[u8], readings: &[u8]) -> Result<String, Fai
             .len()
             .checked_sub(8)
             .and_then(|at| loads.get(at).copied());
-        count_slot(
-            &mut counts,
-            *letter,
-            sent,
-            read.get(1..).unwrap_or(&[]),
-            early,
-        );
+        count_record(&mut counts, *letter, sent, read, early);
         (blocks, found, slots) = (more, rest, slots.saturating_add(1));
     }
+    text_of(alloc, slots, counts)
+}
+
+/// Counts the kind and the fields of a slot by its reading record.
+fn count_record(counts: &mut Counts, letter: u8, sent: &[u8], read: &[u8], early: Option<&[u8]>) {
+    let heard = if letter == b'Q' { b'P' } else { letter };
+    if read.first() == Some(&heard) {
+        raise(&mut counts.kinds, 1);
+    }
+    count_slot(counts, letter, sent, read.get(1..).unwrap_or(&[]), early);
+}
+
+fn text_of(alloc: Global, slots: u32, counts: Counts) -> Result<String, Fail> {
     let Counts {
         kinds,
         good,
@@ -155,21 +158,36 @@ fn counted(alloc: Global, records: &[u8], readings: &[u8]) -> Result<String, Fai
     )?)
 }
 
+/// What a command that draws writes.
+fn drawn(alloc: Global, command: &str, draw: u32) -> Result<Vec<u8>, Fail> {
+    let words = format!(in alloc; "{command} dir=ul ts1=d48n8 slots=32 draw={draw}")?;
+    Ok(run_over(alloc, &words, &[], SURE, 4_000)?.output)
+}
+
+/// The summary of what is made, sent and read.
+fn counted_of(alloc: Global, draw: u32) -> Result<String, Fail> {
+    let records = drawn(alloc, "gen", draw)?;
+    let slots = run_over(alloc, "encode dir=ul ts1=d48n8", &records, SURE, 20_000)?.output;
+    let readings = run_over(alloc, "decode dir=ul ts1=d48n8", &slots, SURE, 20_000)?.output;
+    counted(alloc, &records, &readings)
+}
+
+/// Asserts that a summary says what is counted.
+fn is_counted(rt: &(impl Abort + AllocGlobal), draw: u32) -> Result<(), Fail> {
+    let summary = drawn(rt.alloc(), "trial", draw)?;
+    let wanted = counted_of(rt.alloc(), draw)?;
+    says(rt, str::from_utf8(&summary)?, &wanted, draw);
+    Ok(())
+}
+
+fn says(rt: &impl Abort, summary: &str, wanted: &str, draw: u32) {
+    assert_eq!(rt; summary, wanted, "draw {draw}");
+}
+
 #[test]
 fn summary_counted_from_the_files(rt: HostRuntime) -> Result<(), Fail> {
-    let words = "dir=ul ts1=d48n8";
     for draw in 0..3u32 {
-        let alloc = rt.alloc();
-        let made = format!(in alloc; "gen {words} slots=32 draw={draw}")?;
-        let records = run_over(alloc, &made, &[], SURE, 4_000)?.output;
-        let send = format!(in alloc; "encode {words}")?;
-        let slots = run_over(alloc, &send, &records, SURE, 20_000)?.output;
-        let read = format!(in alloc; "decode {words}")?;
-        let readings = run_over(alloc, &read, &slots, SURE, 20_000)?.output;
-        let tried = format!(in alloc; "trial {words} slots=32 draw={draw}")?;
-        let summary = run_over(alloc, &tried, &[], SURE, 400)?.output;
-        let wanted = counted(alloc, &records, &readings)?;
-        assert_eq!(rt; str::from_utf8(&summary)?, wanted.as_str(), "draw {draw}");
+        is_counted(&rt, draw)?;
     }
     Ok(())
 }

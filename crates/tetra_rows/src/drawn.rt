@@ -1,7 +1,7 @@
 // Blocks of drawn bits, sent and judged both ways: the code beside plain sums, the certificates and the verdicts beside
 // plain rules.
 use crate::plain::{code, rules};
-use crate::runs::{SURE, run_over};
+use crate::runs::{Outcome, SURE, ran_to, run_over};
 use rand_core::utils::NextWord;
 use rand_pcg::Pcg32;
 use std::alloc::{AllocError, Global};
@@ -51,35 +51,70 @@ fn data(packed: &[u8], scrambling: &[bool; 464]) -> [u8; 510] {
     code::burst(&code::traffic(&unpacked::<432>(packed), scrambling))
 }
 
+/// The block records of a slot of SCH/F and one of TCH/7.2.
+fn records(alloc: Global, full: &[u8], load: &[u8]) -> Result<Vec<u8>, AllocError> {
+    let mut records = Vec::from_slice(alloc, b"F")?;
+    records.extend_from_slice(full)?;
+    records.push(b'T')?;
+    records.extend_from_slice(load)?;
+    Ok(records)
+}
+
+/// Asserts that a drawn slot of SCH/F and one of TCH/7.2 are sent as by sums.
+fn are_sent(
+    rt: &(impl Abort + AllocGlobal),
+    pcg: &mut Pcg32,
+    words: &str,
+    colour: &[bool; 30],
+) -> Result<(), Fail> {
+    let full = drawn(rt.alloc(), pcg, 268)?;
+    let load = drawn(rt.alloc(), pcg, 432)?;
+    are_sums(rt, words, &full, &load, &code::scrambling(colour))
+}
+
+fn are_sums(
+    rt: &(impl Abort + AllocGlobal),
+    words: &str,
+    full: &[u8],
+    load: &[u8],
+    scrambling: &[bool; 464],
+) -> Result<(), Fail> {
+    let input = records(rt.alloc(), full, load)?;
+    let ran = ran_to(rt, words, &input, 1_020, "0 2 ")?;
+    is_slot(
+        rt,
+        &signalling(full, scrambling),
+        ran.output.get(..510),
+        words,
+    );
+    is_slot(rt, &data(load, scrambling), ran.output.get(510..), words);
+    Ok(())
+}
+
+/// Asserts that bytes are those of a slot.
+fn is_slot(rt: &impl Abort, slot: &[u8; 510], found: Option<&[u8]>, words: &str) {
+    let found = found.unwrap_or(&[]);
+    assert_eq!(rt; found.len(), 510);
+    for k in 0..510usize {
+        is_byte(rt, found.get(k) == slot.get(k), k, words);
+    }
+}
+
+fn is_byte(rt: &impl Abort, is_same: bool, k: usize, words: &str) {
+    assert!(rt; is_same, "position {k} of {words}");
+}
+
 #[test]
 fn sent_as_by_sums(rt: HostRuntime) -> Result<(), Fail> {
     let mut pcg = Pcg32::new(1, 1);
-    let rows = [
-        ("encode dir=ul ts2=d72", [0, 0, 0]),
-        ("encode dir=ul ts2=d72 mcc=512", [512, 0, 0]),
-        (
-            "encode dir=ul ts2=d72 mcc=901 mnc=16383 cc=1",
-            [901, 16_383, 1],
-        ),
-        ("encode cc=62 dir=ul mnc=4660 ts2=d72", [0, 4_660, 62]),
-    ];
-    for (words, [mcc, mnc, cc]) in rows {
-        let scrambling = code::scrambling(&code::colour(mcc, mnc, cc));
-        let full = drawn(rt.alloc(), &mut pcg, 268)?;
-        let load = drawn(rt.alloc(), &mut pcg, 432)?;
-        let mut input = Vec::from_slice(rt.alloc(), b"F")?;
-        input.extend_from_slice(&full)?;
-        input.push(b'T')?;
-        input.extend_from_slice(&load)?;
-        let mut output = Vec::from_slice(rt.alloc(), &signalling(&full, &scrambling))?;
-        output.extend_from_slice(&data(&load, &scrambling))?;
-        let ran = run_over(rt.alloc(), words, &input, SURE, 1_020)?;
-        assert_eq!(rt; ran.end.as_str(), "0 2 ", "{words}");
-        for k in 0..1_020usize {
-            assert_eq!(rt; ran.output.get(k), output.get(k), "position {k} of {words}");
-        }
-    }
-    Ok(())
+    let words = "encode dir=ul ts2=d72";
+    are_sent(&rt, &mut pcg, words, &code::colour(0, 0, 0))?;
+    let words = "encode dir=ul ts2=d72 mcc=512";
+    are_sent(&rt, &mut pcg, words, &code::colour(512, 0, 0))?;
+    let words = "encode dir=ul ts2=d72 mcc=901 mnc=16383 cc=1";
+    are_sent(&rt, &mut pcg, words, &code::colour(901, 16_383, 1))?;
+    let words = "encode cc=62 dir=ul mnc=4660 ts2=d72";
+    are_sent(&rt, &mut pcg, words, &code::colour(0, 4_660, 62))
 }
 
 /// A slot of drawn bits, of which each value has a drawn size and one in twelve the wrong sign.
@@ -117,37 +152,75 @@ fn agrees(
     at: usize,
 ) -> Result<(), Fail> {
     let line = rules::line(rt.alloc(), file, scrambling)?;
-    let end = if line.as_str() == "0 ok\n" {
+    let words = "audit dir=ul mcc=901 mnc=16383 cc=1";
+    let ran = run_over(rt.alloc(), words, file, SURE, 128)?;
+    is_said(rt, &ran, line.as_str(), at);
+    Ok(())
+}
+
+/// Asserts that a run said this line of one slot, and ended by it.
+fn is_said(rt: &impl Abort, ran: &Outcome, line: &str, at: usize) {
+    let end = if line == "0 ok\n" {
         "0 1 "
     } else {
         "1 1 refused: first slot 0, count 1"
     };
-    let words = "audit dir=ul mcc=901 mnc=16383 cc=1";
-    let ran = run_over(rt.alloc(), words, file, SURE, 128)?;
-    assert_eq!(rt;
-        ran.output.as_slice(),
-        line.as_bytes(),
-        "with byte {at} turned"
-    );
-    assert_eq!(rt; ran.end.as_str(), end, "with byte {at} turned");
+    let is_said = ran.output.as_slice() == line.as_bytes() && ran.end.as_str() == end;
+    assert!(rt; is_said, "with byte {at} turned: {line}");
+}
+
+/// Asserts that an audit says what the rules say when bits of a byte are turned, which are then as they were.
+fn agrees_turned(
+    rt: &(impl Abort + AllocGlobal),
+    file: &mut [u8],
+    scrambling: &[bool; 464],
+    place: usize,
+    bits: u8,
+) -> Result<(), Fail> {
+    turn(file, place, bits);
+    agrees(rt, file, scrambling, place)?;
+    turn(file, place, bits);
+    Ok(())
+}
+
+/// Asserts the same of three ways in which a byte is turned.
+fn agrees_with_turns(
+    rt: &(impl Abort + AllocGlobal),
+    file: &mut [u8],
+    scrambling: &[bool; 464],
+    place: usize,
+) -> Result<(), Fail> {
+    agrees_turned(rt, file, scrambling, place, 0x01)?;
+    agrees_turned(rt, file, scrambling, place, 0x80)?;
+    agrees_turned(rt, file, scrambling, place, 0xFF)
+}
+
+/// A drawn slot with its record and its certificate.
+fn claim(alloc: Global, scrambling: &[bool; 464]) -> Result<Vec<u8>, Fail> {
+    let slot = received(alloc, scrambling)?;
+    let words = "decode form=audit dir=ul mcc=901 mnc=16383 cc=1";
+    Ok(run_over(alloc, words, &slot, SURE, 9_798)?.output)
+}
+
+/// Asserts that the rules say nothing against a claim.
+fn is_ok(
+    rt: &(impl Abort + AllocGlobal),
+    file: &[u8],
+    scrambling: &[bool; 464],
+) -> Result<(), Fail> {
+    let line = rules::line(rt.alloc(), file, scrambling)?;
+    assert_eq!(rt; line.as_str(), "0 ok\n");
     Ok(())
 }
 
 #[test]
 fn judged_as_by_rules(rt: HostRuntime) -> Result<(), Fail> {
     let scrambling = code::scrambling(&code::colour(901, 16_383, 1));
-    let slot = received(rt.alloc(), &scrambling)?;
-    let words = "decode form=audit dir=ul mcc=901 mnc=16383 cc=1";
-    let mut file = run_over(rt.alloc(), words, &slot, SURE, 9_798)?.output;
-    let line = rules::line(rt.alloc(), &file, &scrambling)?;
-    assert_eq!(rt; line.as_str(), "0 ok\n");
+    let mut file = claim(rt.alloc(), &scrambling)?;
+    is_ok(&rt, &file, &scrambling)?;
     for place in 0..9_798usize {
-        for turned in [0x01, 0x80, 0xFF] {
-            if is_turned(place) {
-                turn(&mut file, place, turned);
-                agrees(&rt, &file, &scrambling, place)?;
-                turn(&mut file, place, turned);
-            }
+        if is_turned(place) {
+            agrees_with_turns(&rt, &mut file, &scrambling, place)?;
         }
     }
     Ok(())

@@ -1,7 +1,7 @@
 // How often a run reads and flushes: each call of a source or a sink fails in turn, and what stands after it is known by
 // counting.
 use crate::bytes::bytes;
-use crate::runs::{Ends, SURE, run_over};
+use crate::runs::{Ends, Outcome, SURE, ended, run_over};
 use std::process::Abort;
 use std::test::Fail;
 
@@ -144,7 +144,7 @@ const WRITES: [Faults; 6] = [
     },
 ];
 
-/// Asserts what a run wrote and how it ended.
+/// Asserts that a run wrote so many bytes of the output, and how it ended.
 fn stands(
     rt: &(impl Abort + AllocGlobal),
     faults: &Faults,
@@ -155,29 +155,73 @@ fn stands(
     let input = bytes(rt.alloc(), faults.input)?;
     let output = bytes(rt.alloc(), faults.output)?;
     let ran = run_over(rt.alloc(), faults.words, &input, ends, 20_000)?;
-    assert_eq!(rt; ran.end.as_str(), end, "{}", faults.words);
-    assert_eq!(rt;
-        Some(ran.output.as_slice()),
-        output.get(..taken),
-        "{}",
-        faults.words
-    );
+    ended(rt, &ran, end, faults.words, faults.input);
+    begins(rt, &output, taken, &ran.output, faults.words);
+    Ok(())
+}
+
+/// Asserts that these are the first bytes of an output, so many of them.
+fn begins(rt: &impl Abort, output: &[u8], taken: usize, found: &[u8], words: &str) {
+    let is_front = Some(found) == output.get(..taken);
+    assert!(rt; is_front, "{taken} bytes of {words}");
+}
+
+/// Asserts what stands where a read fails.
+fn read_fails(
+    rt: &(impl Abort + AllocGlobal),
+    faults: &Faults,
+    call: u64,
+    taken: usize,
+    end: &str,
+) -> Result<(), Fail> {
+    let ends = Ends {
+        read_piece: faults.piece,
+        read_fails: call,
+        ..SURE
+    };
+    stands(rt, faults, ends, taken, end)
+}
+
+/// Asserts what stands where a write or a flush fails.
+fn write_fails(
+    rt: &(impl Abort + AllocGlobal),
+    faults: &Faults,
+    call: u64,
+    taken: usize,
+    end: &str,
+) -> Result<(), Fail> {
+    let ends = Ends {
+        write_piece: faults.piece,
+        write_fails: call,
+        ..SURE
+    };
+    stands(rt, faults, ends, taken, end)
+}
+
+fn reads_fail(rt: &(impl Abort + AllocGlobal), faults: &Faults) -> Result<(), Fail> {
+    for (first, last, taken, end) in faults.calls {
+        for call in *first..=*last {
+            read_fails(rt, faults, call, *taken, end)?;
+        }
+    }
+    Ok(())
+}
+
+fn writes_fail(rt: &(impl Abort + AllocGlobal), faults: &Faults) -> Result<(), Fail> {
+    for (first, last, taken, end) in faults.calls {
+        let mut taken = *taken;
+        for call in *first..=*last {
+            write_fails(rt, faults, call, taken, end)?;
+            taken = taken.saturating_add(faults.piece);
+        }
+    }
     Ok(())
 }
 
 #[test]
 fn each_read_fails(rt: HostRuntime) -> Result<(), Fail> {
     for faults in &READS {
-        for (first, last, taken, end) in faults.calls {
-            for call in *first..=*last {
-                let ends = Ends {
-                    read_piece: faults.piece,
-                    read_fails: call,
-                    ..SURE
-                };
-                stands(&rt, faults, ends, *taken, end)?;
-            }
-        }
+        reads_fail(&rt, faults)?;
     }
     Ok(())
 }
@@ -185,71 +229,62 @@ fn each_read_fails(rt: HostRuntime) -> Result<(), Fail> {
 #[test]
 fn each_write_fails(rt: HostRuntime) -> Result<(), Fail> {
     for faults in &WRITES {
-        for (first, last, taken, end) in faults.calls {
-            let mut taken = *taken;
-            for call in *first..=*last {
-                let ends = Ends {
-                    write_piece: faults.piece,
-                    write_fails: call,
-                    ..SURE
-                };
-                stands(&rt, faults, ends, taken, end)?;
-                taken = taken.saturating_add(faults.piece);
-            }
-        }
+        writes_fail(&rt, faults)?;
     }
     Ok(())
 }
 
+/// Words, input, the numbers of the read and of the write that fail, how many bytes of `full` stand, and the end.
+const FLUSHES: [(&str, &str, u64, u64, usize, &str); 5] = [
+    (
+        "encode dir=ul",
+        "46 34*00",
+        36,
+        2,
+        510,
+        "5 1 write failed after 1 slots",
+    ),
+    (
+        "encode dir=ul max=1",
+        "46 34*00 46",
+        0,
+        2,
+        510,
+        "5 1 write failed after 1 slots",
+    ),
+    (
+        "encode dir=ul",
+        "46 34*00 54",
+        0,
+        2,
+        510,
+        "5 1 write failed after 1 slots",
+    ),
+    (
+        "encode dir=ul ts1=d72",
+        "51 15*00 01 70*00",
+        0,
+        1,
+        0,
+        "5 0 write failed after 0 slots",
+    ),
+    (
+        "decode dir=ul",
+        "509*00",
+        0,
+        1,
+        0,
+        "5 0 write failed after 0 slots",
+    ),
+];
+
 #[test]
 fn flush_fails_behind_another_end(rt: HostRuntime) -> Result<(), Fail> {
-    let rows = [
-        (
-            "encode dir=ul",
-            "46 34*00",
-            36,
-            2,
-            510,
-            "5 1 write failed after 1 slots",
-        ),
-        (
-            "encode dir=ul max=1",
-            "46 34*00 46",
-            0,
-            2,
-            510,
-            "5 1 write failed after 1 slots",
-        ),
-        (
-            "encode dir=ul",
-            "46 34*00 54",
-            0,
-            2,
-            510,
-            "5 1 write failed after 1 slots",
-        ),
-        (
-            "encode dir=ul ts1=d72",
-            "51 15*00 01 70*00",
-            0,
-            1,
-            0,
-            "5 0 write failed after 0 slots",
-        ),
-        (
-            "decode dir=ul",
-            "509*00",
-            0,
-            1,
-            0,
-            "5 0 write failed after 0 slots",
-        ),
-    ];
-    for (words, input, read_fails, write_fails, taken, end) in rows {
+    for (words, input, read_fails, write_fails, taken, end) in &FLUSHES {
         let ends = Ends {
             read_piece: 1,
-            read_fails,
-            write_fails,
+            read_fails: *read_fails,
+            write_fails: *write_fails,
             ..SURE
         };
         let faults = Faults {
@@ -259,34 +294,41 @@ fn flush_fails_behind_another_end(rt: HostRuntime) -> Result<(), Fail> {
             piece: 1,
             calls: &[],
         };
-        stands(&rt, &faults, ends, taken, end)?;
+        stands(&rt, &faults, ends, *taken, end)?;
     }
     Ok(())
 }
 
 #[test]
 fn room_of_a_slot_and_a_part(rt: HostRuntime) -> Result<(), Fail> {
-    let input = bytes(rt.alloc(), "46 34*00 46 34*00")?;
+    let (words, blocks) = ("encode dir=ul", "46 34*00 46 34*00");
+    let input = bytes(rt.alloc(), blocks)?;
     let output = bytes(rt.alloc(), "full full")?;
-    let ran = run_over(rt.alloc(), "encode dir=ul", &input, SURE, 700)?;
-    assert_eq!(rt; ran.end.as_str(), "5 1 write failed after 1 slots");
-    assert_eq!(rt; Some(ran.output.as_slice()), output.get(..700));
+    let ran = run_over(rt.alloc(), words, &input, SURE, 700)?;
+    ended(&rt, &ran, "5 1 write failed after 1 slots", words, blocks);
+    begins(&rt, &output, 700, &ran.output, words);
     Ok(())
+}
+
+/// Asserts that each part of an input is found to be cut off.
+fn are_cut_off(rt: &(impl Abort + AllocGlobal), words: &str, whole: &str) -> Result<(), Fail> {
+    let input = bytes(rt.alloc(), whole)?;
+    for size in 1..input.len() {
+        let ran = run_over(rt.alloc(), words, &input[..size], SURE, 510)?;
+        is_cut_off(rt, &ran, words, size);
+    }
+    Ok(())
+}
+
+fn is_cut_off(rt: &impl Abort, ran: &Outcome, words: &str, size: usize) {
+    assert!(rt;
+        ran.output.is_empty() && ran.end.as_str() == "3 0 input: slot 0: truncated",
+        "{words} of {size} bytes"
+    );
 }
 
 #[test]
 fn parts_of_an_input(rt: HostRuntime) -> Result<(), Fail> {
-    for (words, whole) in [("decode dir=ul", "full"), ("encode dir=ul", "46 34*00")] {
-        let whole = bytes(rt.alloc(), whole)?;
-        for size in 1..whole.len() {
-            let ran = run_over(rt.alloc(), words, &whole[..size], SURE, 510)?;
-            assert_eq!(rt;
-                ran.end.as_str(),
-                "3 0 input: slot 0: truncated",
-                "{words} of {size} bytes"
-            );
-            assert!(rt; ran.output.is_empty(), "{words} of {size} bytes");
-        }
-    }
-    Ok(())
+    are_cut_off(&rt, "decode dir=ul", "full")?;
+    are_cut_off(&rt, "encode dir=ul", "46 34*00")
 }

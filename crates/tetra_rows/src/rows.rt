@@ -1,6 +1,7 @@
 // Runs that were worked out by hand: that letters, lengths, layouts and texts are the ones that are written down.
 use crate::bytes::bytes;
 use crate::runs::{Row, SURE, holds, run_over};
+use std::process::Abort;
 use std::test::Fail;
 
 const ENCODED: [Row; 18] = [
@@ -462,9 +463,11 @@ fn encoding(rt: HostRuntime) -> Result<(), Fail> {
 #[test]
 fn decoding(rt: HostRuntime) -> Result<(), Fail> {
     for row in &DECODED {
-        for piece in [1, 7, 509, 510, 511] {
-            holds(&rt, row, piece)?;
-        }
+        holds(&rt, row, 1)?;
+        holds(&rt, row, 7)?;
+        holds(&rt, row, 509)?;
+        holds(&rt, row, 510)?;
+        holds(&rt, row, 511)?;
     }
     Ok(())
 }
@@ -472,27 +475,25 @@ fn decoding(rt: HostRuntime) -> Result<(), Fail> {
 #[test]
 fn auditing(rt: HostRuntime) -> Result<(), Fail> {
     for row in &AUDITED {
-        for piece in [509, 511] {
-            holds(&rt, row, piece)?;
-        }
+        holds(&rt, row, 509)?;
+        holds(&rt, row, 511)?;
     }
+    Ok(())
+}
+
+/// Asserts the first bits that are sent for zeros.
+fn begins(rt: &(impl Abort + AllocGlobal), words: &str, front: &str) -> Result<(), Fail> {
+    let input = bytes(rt.alloc(), "54 54*00")?;
+    let front = bytes(rt.alloc(), front)?;
+    let ran = run_over(rt.alloc(), words, &input, SURE, 510)?;
+    let sent = ran.output.get(38..).unwrap_or(&[]);
+    assert!(rt; sent.starts_with(&front), "{words}");
     Ok(())
 }
 
 #[test]
 fn first_bits_under_three_keys(rt: HostRuntime) -> Result<(), Fail> {
-    let rows = [
-        ("encode dir=ul ts1=d72", "81 7F 81"),
-        ("encode dir=ul ts1=d72 mcc=512", "7F"),
-        ("encode dir=ul ts1=d72 cc=1", "81 7F 7F"),
-    ];
-    for (words, front) in rows {
-        let input = bytes(rt.alloc(), "54 54*00")?;
-        let front = bytes(rt.alloc(), front)?;
-        let ran = run_over(rt.alloc(), words, &input, SURE, 510)?;
-        for (k, byte) in front.iter().enumerate() {
-            assert_eq!(rt; ran.output.get(38 + k), Some(byte), "bit {k} of {words}");
-        }
-    }
-    Ok(())
+    begins(&rt, "encode dir=ul ts1=d72", "81 7F 81")?;
+    begins(&rt, "encode dir=ul ts1=d72 mcc=512", "7F")?;
+    begins(&rt, "encode dir=ul ts1=d72 cc=1", "81 7F 7F")
 }

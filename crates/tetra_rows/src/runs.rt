@@ -3,7 +3,7 @@ use crate::bytes::{bytes, is_written};
 use std::alloc::{AllocError, Global};
 use std::process::Abort;
 use std::test::Fail;
-use tetra_engine::{exit_code, line, run};
+use tetra_engine::{End, exit_code, line, run};
 use tetra_io::{MemSink, MemSource};
 
 /// A run: its words, its input and its output in the notation of `bytes`, and the exit code, the slots and the line of
@@ -48,22 +48,61 @@ pub fn run_over(
     ends: Ends,
     room: usize,
 ) -> Result<Outcome, Fail> {
-    let mut all = Vec::new(alloc);
-    for word in words.split_whitespace() {
-        all.push(String::from_str(alloc, word)?)?;
-    }
+    let all = words_of(alloc, words)?;
     let mut room = vec![in alloc; 0; room]?;
     let (read_pieces, write_pieces) = ([ends.read_piece], [ends.write_piece]);
     let (read_fails, write_fails) = ([ends.read_fails], [ends.write_fails]);
     let mut src = MemSource::new(input, &read_pieces, &read_fails);
     let mut sink = MemSink::new(&mut room, &write_pieces, &write_fails);
     let end = run(&all, &mut src, &mut sink);
-    let (exit, slots, line) = (exit_code(&end), end.slots, line(&end));
-    let line = line.as_str();
     Ok(Outcome {
         output: sink.taken().to_vec(alloc)?,
-        end: format!(in alloc; "{exit} {slots} {line}")?,
+        end: text_of(alloc, &end)?,
     })
+}
+
+fn words_of(alloc: Global, words: &str) -> Result<Vec<String>, AllocError> {
+    let mut all = Vec::new(alloc);
+    for word in words.split_whitespace() {
+        all.push(String::from_str(alloc, word)?)?;
+    }
+    Ok(all)
+}
+
+fn text_of(alloc: Global, end: &End) -> Result<String, AllocError> {
+    let line = line(end);
+    format!(in alloc; "{} {} {}", exit_code(end), end.slots, line.as_str())
+}
+
+/// Asserts how a run ended. Its words and its input name it.
+pub fn ended(rt: &impl Abort, ran: &Outcome, end: &str, words: &str, input: &str) {
+    assert_eq!(rt; ran.end.as_str(), end, "{words} of {input}");
+}
+
+/// A run that moves whole pieces; asserts how it ended. Its words name it.
+pub fn ran_to(
+    rt: &(impl Abort + AllocGlobal),
+    words: &str,
+    input: &[u8],
+    room: usize,
+    end: &str,
+) -> Result<Outcome, Fail> {
+    let ran = run_over(rt.alloc(), words, input, SURE, room)?;
+    ended(rt, &ran, end, words, "made bytes");
+    Ok(ran)
+}
+
+/// Asserts what a run wrote, in the notation of `bytes`. Its words and its input name it.
+pub fn wrote(
+    rt: &(impl Abort + AllocGlobal),
+    ran: &Outcome,
+    output: &str,
+    words: &str,
+    input: &str,
+) -> Result<(), Fail> {
+    let is_written = is_written(rt.alloc(), output, &ran.output)?;
+    assert!(rt; is_written, "output of {words} of {input}");
+    Ok(())
 }
 
 /// Asserts that a row holds where the source gives pieces of this size.
@@ -71,12 +110,6 @@ pub fn holds(rt: &(impl Abort + AllocGlobal), row: &Row, read_piece: usize) -> R
     let input = bytes(rt.alloc(), row.input)?;
     let ends = Ends { read_piece, ..SURE };
     let ran = run_over(rt.alloc(), row.words, &input, ends, 20_000)?;
-    assert_eq!(rt; ran.end.as_str(), row.end, "{} of {}", row.words, row.input);
-    assert!(rt;
-        is_written(rt.alloc(), row.output, &ran.output)?,
-        "output of {} of {}",
-        row.words,
-        row.input
-    );
-    Ok(())
+    ended(rt, &ran, row.end, row.words, row.input);
+    wrote(rt, &ran, row.output, row.words, row.input)
 }

@@ -8,17 +8,21 @@ use tetra_rm::walk::turned;
 use tetra_rm::{decode, own_rows};
 use tetra_trellis::lanes::lane_row;
 
-/// The row before the last step of 80, which takes bit 0 alone, over these values of its four places.
-fn row_before_last(rt: &impl Abort, values: [i16; 4], after: &[u32; 16]) -> [u32; 16] {
+/// The values of 80 steps, zeros but for the first of the last four.
+fn values(rt: &impl Abort, value: i16) -> Wide {
     let mut wide = Wide::new();
-    for _ in 0..316 {
-        assert!(rt; wide.len() < 316);
-        wide.push(0);
+    for k in 0..320usize {
+        let one = if k == 316 { value } else { 0 };
+        assert!(rt; wide.len() < 320 && -127 <= one && one <= 127);
+        wide.push(one);
     }
-    for value in values {
-        assert!(rt; wide.len() < 320 && -127 <= value && value <= 127);
-        wide.push(value);
-    }
+    wide
+}
+
+/// The row before the last step of 80, which takes bit 0 alone, over this value of the first of its four places and zeros
+/// of the others.
+fn row_before_last(rt: &impl Abort, value: i16, after: &[u32; 16]) -> [u32; 16] {
+    let wide = values(rt, value);
     assert!(rt; wide.len() == 320);
     for s in 0..16usize {
         assert!(rt; after[s] <= 1 << 31);
@@ -34,13 +38,13 @@ fn rows_before_the_last_step(rt: HostRuntime) {
         states[s] = s as u32;
         halves[s] = s as u32 / 2;
     }
-    assert!(rt; row_before_last(&rt, [0; 4], &states) == halves);
+    assert!(rt; row_before_last(&rt, 0, &states) == halves);
     let mut ones = [0; 16];
     for (s, bit) in b"0101010110101010".iter().enumerate() {
         assert!(rt; s < 16);
         ones[s] = if *bit == b'1' { 127 } else { 0 };
     }
-    assert!(rt; row_before_last(&rt, [127, 0, 0, 0], &[0; 16]) == ones);
+    assert!(rt; row_before_last(&rt, 127, &[0; 16]) == ones);
 }
 
 /// The 16 bits of the access word of message 1 behind its message bits.

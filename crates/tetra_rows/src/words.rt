@@ -1,6 +1,7 @@
 // Words that end a run before it begins: that the keys, the values, the texts and the exit codes are the ones that are
 // written down. Each first call of the source and of the sink would fail.
-use crate::runs::{Ends, SURE, run_over};
+use crate::runs::{Ends, SURE, ended, run_over};
+use std::process::Abort;
 use std::test::Fail;
 
 const ENDS: [(&str, &str); 33] = [
@@ -42,17 +43,23 @@ const ENDS: [(&str, &str); 33] = [
     ("encode ts1=cb cc=64", "2 0 word 2: out of range"),
 ];
 
-#[test]
-fn words_that_end_a_run(rt: HostRuntime) -> Result<(), Fail> {
+/// Asserts that these words end a run so, and that nothing is written.
+fn ends(rt: &(impl Abort + AllocGlobal), words: &str, end: &str) -> Result<(), Fail> {
     let ends = Ends {
         read_fails: 1,
         write_fails: 1,
         ..SURE
     };
-    for (words, end) in ENDS {
-        let ran = run_over(rt.alloc(), words, &[0x46], ends, 1)?;
-        assert_eq!(rt; ran.end.as_str(), end, "{words}");
-        assert!(rt; ran.output.is_empty(), "{words}");
+    let ran = run_over(rt.alloc(), words, &[0x46], ends, 1)?;
+    ended(rt, &ran, end, words, "46");
+    assert!(rt; ran.output.is_empty(), "{words}");
+    Ok(())
+}
+
+#[test]
+fn words_that_end_a_run(rt: HostRuntime) -> Result<(), Fail> {
+    for (words, end) in &ENDS {
+        ends(&rt, words, end)?;
     }
     Ok(())
 }

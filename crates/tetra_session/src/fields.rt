@@ -387,7 +387,14 @@ fn half_reads_good(values: &Soft) -> bool
     requires { length values.now ≡ 216 }
     ensures { result ≡ is_good (coded_reading half values.now).mark }
 {
-    is_good(Half::decode3(values).mark)
+    let mut reading = Reading {
+        mark: Mark::Unchecked,
+        metric: 0,
+        bits: Bits::new(),
+        potentials: None,
+    };
+    Half::decode3_into(values, &mut reading);
+    is_good(reading.mark)
 }
 
 /// Whether there are values of a half slot channel, and they are read as Good.

@@ -160,6 +160,19 @@ fn put_table(potentials: &Potentials, bytes: &mut [u8], at: usize) -> usize
     at + 32 * potentials.rows()
 }
 
+/// Makes a list longer by so many zeros, at most 1,024 at a time.
+fn add_zeros<const N: usize>(more: usize, out: &mut ArrayVec<u8, N>)
+    requires { array_vec_len out.old + more ≤ N }
+    ensures front { take (length out.old.items) out.new.items ≡ out.old.items }
+    ensures len { array_vec_len out.new ≡ array_vec_len out.old + more }
+{
+    for t in 0..more / 1024 {
+        out.try_extend_from_slice(&[0; 1024]).unwrap();
+    }
+    out.try_extend_from_slice(&[0; 1024][..more % 1024])
+        .unwrap();
+}
+
 /// Puts a table behind what stands in `out`, which is made long enough first.
 fn add_table<const N: usize>(potentials: &Potentials, out: &mut ArrayVec<u8, N>)
     requires small { (t s : ℕ) → entry potentials.now t s ≤ 65535 }
@@ -168,7 +181,6 @@ fn add_table<const N: usize>(potentials: &Potentials, out: &mut ArrayVec<u8, N>)
     ensures len { array_vec_len out.new ≡ array_vec_len out.old + 32 * length potentials.now }
 {
     let at = out.len();
-    out.try_extend_from_slice(&[0; 9376][..32 * potentials.rows()])
-        .unwrap();
+    add_zeros(32 * potentials.rows(), out);
     put_table(potentials, out.as_mut_slice(), at);
 }

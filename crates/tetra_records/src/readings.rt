@@ -1,15 +1,16 @@
 // Reading records.
-ghost use Rattle.std.specs.Prelude.{◌≡◌, ◌<◌, ◌≤◌, ◌+◌, ◌*◌, ◌/◌, ◌++◌, ◌∷◌, [], ℕ, length, slice_index};
+ghost use Rattle.std.specs.Prelude.{◌≡◌, ◌<◌, ◌≤◌, ◌+◌, ◌*◌, ◌/◌, ◌++◌, ◌∷◌, [], ℕ, length, take, slice_index};
 ghost use Rattle.std.specs.List.{All};
 ghost use Rattle.arrayvec.specs.ArrayVec.{array_vec_len};
-ghost use Rattle.tetra_bits.specs.Readings.{entry};
-ghost use Rattle.tetra_bits.specs.Packed.{bytes_for};
+ghost use Rattle.tetra_bits.specs.Readings.{entry, mark_byte};
+ghost use Rattle.tetra_bits.specs.Packed.{bytes_for, packed};
 ghost use Rattle.tetra_settings.specs.Readings.{IsWellFormed, IsField};
 ghost use Rattle.tetra_records.specs.Readings.{two_bytes, row_bytes, table_bytes, field_bytes, reading_spelling, IsSmall};
 ghost use Rattle.tetra_records.specs.Rooms.{room_of};
 
 use arrayvec::ArrayVec;
-use tetra_bits::{Potentials, pack};
+use std::simd::prelude::*;
+use tetra_bits::{Potentials, Reading, pack};
 use tetra_settings::{Field, Form, SlotReading};
 
 /// The reading record: a letter, and for each field a mark, a metric of two bytes, the bits packed, and
@@ -61,6 +62,56 @@ pub fn add_field<const N: usize>(field: &Field, form: Form, out: &mut ArrayVec<u
     }
 }
 
+/// Writes what `add_field` appends into `bytes`, from place `at` on, over what stands there, and answers where it ends. So a
+/// record is made in place, field by field. Metric and potentials are at most 65,535, and there is room for the field.
+#[tactic(auto, unfolding(crate::specs::Readings::field_bytes))]
+pub fn write_field(field: &Field, form: Form, bytes: &mut [u8], at: usize) -> usize
+    requires field { IsField field.now }
+    requires small { IsSmall field.now }
+    requires room { at + room_of field.now.name ≤ length bytes.old }
+    ensures bytes { take result bytes.new ≡ take at bytes.old ++ field_bytes form field.now }
+    ensures end { result ≤ at + room_of field.now.name }
+    ensures size { length bytes.new ≡ length bytes.old }
+{
+    let end = put_head(&field.reading, bytes, at);
+    if let (Form::Audit, Some(potentials)) = (form, &field.reading.potentials) {
+        put_table(potentials, bytes, end)
+    } else {
+        end
+    }
+}
+
+/// Writes the mark, the metric and the bits of a field at a place, and answers where they end.
+fn put_head(reading: &Reading, bytes: &mut [u8], at: usize) -> usize
+    requires small { reading.now.metric ≤ 65535 }
+    requires room { at + 3 + bytes_for (length reading.now.bits) ≤ length bytes.old }
+    ensures bytes { take result bytes.new
+        ≡ take at bytes.old ++ (mark_byte reading.now.mark ∷ two_bytes reading.now.metric) ++ packed reading.now.bits }
+    ensures end { result ≡ at + 3 + bytes_for (length reading.now.bits) }
+    ensures size { length bytes.new ≡ length bytes.old }
+{
+    let metric = reading.metric;
+    let head = [
+        reading.mark.byte(),
+        (metric / 256) as u8,
+        (metric % 256) as u8,
+    ];
+    let end = put_bytes(&head, bytes, at);
+    put_bytes(pack(&reading.bits).as_slice(), bytes, end)
+}
+
+/// Writes bytes at a place, and answers where they end.
+fn put_bytes(piece: &[u8], bytes: &mut [u8], at: usize) -> usize
+    requires { at + length piece.now ≤ length bytes.old }
+    ensures bytes { take result bytes.new ≡ take at bytes.old ++ piece.now }
+    ensures end { result ≡ at + length piece.now }
+    ensures size { length bytes.new ≡ length bytes.old }
+{
+    let end = at + piece.len();
+    bytes[at..end].copy_from_slice(piece);
+    end
+}
+
 fn add_number<const N: usize>(number: u32, out: &mut ArrayVec<u8, N>)
     requires small { number ≤ 65535 }
     requires room { array_vec_len out.old + 2 ≤ N }
@@ -71,37 +122,65 @@ fn add_number<const N: usize>(number: u32, out: &mut ArrayVec<u8, N>)
     out.push((number % 256) as u8);
 }
 
-/// The bytes of a row, two for each of its 16 entries.
-fn bytes_of_row(row: &[u32; 16]) -> [u8; 32]
+/// The bytes of a row, two for each of its 16 entries, the higher one first.
+#[inline(always)]
+fn bytes_of_row(row: &[u32; 16]) -> u8x32
     requires small { (s : ℕ) → slice_index row.now s ≤ 65535 }
     ensures { result ≡ row_bytes row.now }
 {
-    let mut bytes = [0; 32];
-    for s in 0..16usize {
-        bytes[2 * s] = (row[s] / 256) as u8;
-        bytes[2 * s + 1] = (row[s] % 256) as u8;
-    }
-    bytes
+    u32x16::from_array(*row).to_le_bytes().swizzle([
+        1, 0, 5, 4, 9, 8, 13, 12, 17, 16, 21, 20, 25, 24, 29, 28, 33, 32, 37, 36, 41, 40, 45, 44,
+        49, 48, 53, 52, 57, 56, 61, 60,
+    ])
 }
 
-fn add_row<const N: usize>(row: &[u32; 16], out: &mut ArrayVec<u8, N>)
+/// Writes a row at a place.
+#[inline(always)]
+fn put_row(row: &[u32; 16], bytes: &mut [u8], at: usize)
     requires small { (s : ℕ) → slice_index row.now s ≤ 65535 }
-    requires room { array_vec_len out.old + 32 ≤ N }
-    ensures bytes { out.new.items ≡ out.old.items ++ row_bytes row.now }
-    ensures len { array_vec_len out.new ≡ array_vec_len out.old + 32 }
+    requires room { at + 32 ≤ length bytes.old }
+    ensures bytes { take (at + 32) bytes.new ≡ take at bytes.old ++ row_bytes row.now }
+    ensures size { length bytes.new ≡ length bytes.old }
 {
-    let bytes = bytes_of_row(row);
-    out.try_extend_from_slice(&bytes).unwrap();
+    bytes_of_row(row).copy_to_slice(&mut bytes[at..]);
 }
 
+/// Writes a table at a place, row by row, and answers where it ends.
 #[tactic(auto, unfolding(tetra_bits::specs::Readings::entry))]
+fn put_table(potentials: &Potentials, bytes: &mut [u8], at: usize) -> usize
+    requires small { (t s : ℕ) → entry potentials.now t s ≤ 65535 }
+    requires room { at + 32 * length potentials.now ≤ length bytes.old }
+    ensures bytes { take result bytes.new ≡ take at bytes.old ++ table_bytes potentials.now }
+    ensures end { result ≡ at + 32 * length potentials.now }
+    ensures size { length bytes.new ≡ length bytes.old }
+{
+    for t in 0..potentials.rows() {
+        put_row(potentials.row(t), bytes, at + 32 * t);
+    }
+    at + 32 * potentials.rows()
+}
+
+/// Makes a list longer by so many zeros, at most 1,024 at a time.
+fn add_zeros<const N: usize>(more: usize, out: &mut ArrayVec<u8, N>)
+    requires { array_vec_len out.old + more ≤ N }
+    ensures front { take (length out.old.items) out.new.items ≡ out.old.items }
+    ensures len { array_vec_len out.new ≡ array_vec_len out.old + more }
+{
+    for t in 0..more / 1024 {
+        out.try_extend_from_slice(&[0; 1024]).unwrap();
+    }
+    out.try_extend_from_slice(&[0; 1024][..more % 1024])
+        .unwrap();
+}
+
+/// Puts a table behind what stands in `out`, which is made long enough first.
 fn add_table<const N: usize>(potentials: &Potentials, out: &mut ArrayVec<u8, N>)
     requires small { (t s : ℕ) → entry potentials.now t s ≤ 65535 }
     requires room { array_vec_len out.old + 32 * length potentials.now ≤ N }
     ensures bytes { out.new.items ≡ out.old.items ++ table_bytes potentials.now }
     ensures len { array_vec_len out.new ≡ array_vec_len out.old + 32 * length potentials.now }
 {
-    for t in 0..potentials.rows() {
-        add_row(potentials.row(t), out);
-    }
+    let at = out.len();
+    add_zeros(32 * potentials.rows(), out);
+    put_table(potentials, out.as_mut_slice(), at);
 }

@@ -1,5 +1,5 @@
 // Decoding as a work over slots.
-ghost use Rattle.std.specs.Prelude.{◌≡◌, ◌<◌, ◌≤◌, length, List, ℕ, [], All};
+ghost use Rattle.std.specs.Prelude.{◌≡◌, ◌<◌, ◌≤◌, length, List, ℕ, [], All, take};
 ghost use Rattle.tetra_settings.specs.Validity.{IsValid};
 ghost use Rattle.tetra_engine.specs.Decoding.{decoding, framed};
 ghost use Rattle.tetra_records.specs.Readings.{reading_spelling, IsSmall};
@@ -10,7 +10,7 @@ use crate::status::Status;
 use crate::work::{Stop, Work};
 use arrayvec::ArrayVec;
 use tetra_io::{Sink, SinkFault, Source, put_all};
-use tetra_records::add_reading;
+use tetra_records::write_reading;
 use tetra_settings::{Form, Settings, SlotReading};
 
 /// Decoding: the slots that are read, and the reading and the output of the last one, which are used again for each.
@@ -18,7 +18,7 @@ use tetra_settings::{Form, Settings, SlotReading};
 pub struct Decoder {
     intake: Intake,
     reading: SlotReading,
-    output: ArrayVec<u8, 19_253>,
+    output: [u8; 19_253],
 }
 
 impl Decoder {
@@ -36,7 +36,7 @@ impl Decoder {
                 letter: 0,
                 fields: ArrayVec::new(),
             },
-            output: ArrayVec::new(),
+            output: [0; 19_253],
         }
     }
 }
@@ -64,13 +64,13 @@ impl Work for Decoder {
     fn write<K: Sink>(&mut self, sink: &mut K) -> Result<(), SinkFault> {
         let intake = &mut self.intake;
         intake.receiver.slot_into(&intake.soft, &mut self.reading);
-        put_reading(
+        let len = put_reading(
             &intake.bytes,
             &self.reading,
             intake.settings.form,
             &mut self.output,
         );
-        put_all(sink, &self.output)
+        put_all(sink, &self.output[..len])
     }
 
     fn end(&self) -> Status {
@@ -78,20 +78,23 @@ impl Work for Decoder {
     }
 }
 
-/// Fills the output with a reading record, behind the bytes of its slot where it is to be audited.
+/// Writes a reading record at the front of the output, behind the bytes of its slot where it is to be audited, and answers
+/// how many bytes these are.
 fn put_reading(
     bytes: &[u8; 510],
     reading: &SlotReading,
     form: Form,
-    output: &mut ArrayVec<u8, 19_253>,
-)
+    output: &mut [u8; 19_253],
+) -> usize
     requires formed { IsWellFormed reading.now }
     requires small { All IsSmall reading.now.fields.items }
-    ensures { output.new.items ≡ framed form bytes.now (reading_spelling form reading.now) }
+    ensures bytes { take result output.new ≡ framed form bytes.now (reading_spelling form reading.now) }
+    ensures few { result ≤ 19253 }
 {
-    output.clear();
+    let mut at = 0usize;
     if form == Form::Audit {
-        output.try_extend_from_slice(bytes).unwrap();
+        output[..510].copy_from_slice(bytes);
+        at = 510;
     }
-    add_reading(reading, form, output);
+    write_reading(reading, form, output, at)
 }

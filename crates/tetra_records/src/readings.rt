@@ -41,6 +41,24 @@ pub fn add_reading<const N: usize>(reading: &SlotReading, form: Form, out: &mut 
     }
 }
 
+/// Writes what `add_reading` appends into `bytes`, from place `at` on, over what stands there, and answers where it ends.
+/// There is room for the longest record.
+pub fn write_reading(reading: &SlotReading, form: Form, bytes: &mut [u8], at: usize) -> usize
+    requires formed { IsWellFormed reading.now }
+    requires small { All IsSmall reading.now.fields.items }
+    requires room { at + 18743 ≤ length bytes.old }
+    ensures bytes { take result bytes.new ≡ take at bytes.old ++ reading_spelling form reading.now }
+    ensures end { result ≤ at + 18743 }
+    ensures size { length bytes.new ≡ length bytes.old }
+{
+    bytes[at] = reading.letter;
+    let mut end = at + 1;
+    for field in reading.fields.as_slice() {
+        end = write_field(field, form, bytes, end);
+    }
+    end
+}
+
 /// Puts the part of a reading record that is a field's behind what stands in `out`: its mark, its metric, its bits packed,
 /// and in form `Audit` its certificate. A record is its letter and then its fields, so it can be made field by field, where
 /// there is no room for all of them. Metric and potentials are at most 65,535, and there is room for the field.

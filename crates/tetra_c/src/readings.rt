@@ -105,15 +105,15 @@ fn put_field(field: &Field, out: &mut TetraField)
 
 /// Writes what is read of a slot by its front. One field is read at a time.
 #[inline(never)]
-pub fn put_front(rows: &AccessCode, front: &Front, out: &mut TetraReading)
+pub fn put_front(code: &AccessCode, front: &Front, out: &mut TetraReading)
     requires { IsFront front.now }
-    ensures { ArePut (read_front rows.now.0 front.now) out.new }
+    ensures { ArePut (read_front code.now.0 front.now) out.new }
 {
     out.letter = front.letter;
     out.count = front.fields.len() as u8;
     let mut field = Field::default();
     for i in 0..front.fields.len() {
-        read_heard(rows, &front.fields[i], &mut field);
+        read_heard(code, &front.fields[i], &mut field);
         put_field(&field, &mut out.fields[i]);
     }
 }

@@ -1,7 +1,6 @@
 // Reading records: the bytes of a reading with its certificates, and their audit.
 ghost use Rattle.std.specs.Prelude.{◌≡◌, ◌≢◌, ◌<◌, ◌≤◌, ◌+◌, ◌-◌, ◌++◌, ◌∷◌, [], pos, length, take, List, ℤ, IfOk, IsOk, IsErr, None};
 ghost use Rattle.std.specs.Result.{result_err};
-ghost use Rattle.arrayvec.specs.ArrayVec.{array_vec_len};
 ghost use Rattle.tetra_audit.specs.Fields.{claim_length};
 ghost use Rattle.tetra_audit.specs.Verdicts.{slot_verdict};
 ghost use Rattle.tetra_records.specs.Readings.{reading_spelling};
@@ -17,11 +16,10 @@ ghost use Rattle.tetra_c.specs.Values.{soft_values};
 use crate::fault::Fault;
 use crate::receiver::{TetraReceiver, empty_front, hear, hear_next, lane_at, ready};
 use crate::verdict::{TetraVerdict, verdict_for};
-use arrayvec::ArrayVec;
 use tetra_audit::{FieldWhy, SlotVerdict, audit_slot_with, claim_len};
 use tetra_bits::Potentials;
 use tetra_cert::Verdict;
-use tetra_records::add_field;
+use tetra_records::write_field;
 use tetra_rm::AccessCode;
 use tetra_session::{Front, read_heard};
 use tetra_settings::{Field, Form};
@@ -37,36 +35,20 @@ fn form_of(certificates: u8) -> Form
     }
 }
 
-/// Puts the reading record of a front behind what stands in `out`, which has room for the longest one. One field is read
-/// at a time.
-fn add_front<const N: usize>(
-    rows: &AccessCode,
-    front: &Front,
-    form: Form,
-    out: &mut ArrayVec<u8, N>,
-)
+/// Writes the reading record of a front at the front of the bytes, and answers how many it has. One field is read at a time.
+#[inline(never)]
+fn put_record(code: &AccessCode, front: &Front, form: Form, bytes: &mut [u8; 18743]) -> u32
     requires formed { IsFront front.now }
-    requires room { array_vec_len out.old + 18743 ≤ N }
-    ensures { out.new.items ≡ out.old.items ++ reading_spelling form (read_front rows.now.0 front.now) }
+    ensures { take result bytes.new ≡ reading_spelling form (read_front code.now.0 front.now) }
 {
-    out.push(front.letter);
+    bytes[0] = front.letter;
+    let mut end = 1usize;
     let mut field = Field::default();
     for heard in front.fields.as_slice() {
-        read_heard(rows, heard, &mut field);
-        add_field(&field, form, out);
+        read_heard(code, heard, &mut field);
+        end = write_field(&field, form, bytes, end);
     }
-}
-
-/// Writes the reading record of a front at the front of the bytes, and answers how many it has.
-#[inline(never)]
-fn put_record(rows: &AccessCode, front: &Front, form: Form, bytes: &mut [u8; 18743]) -> u32
-    requires { IsFront front.now }
-    ensures { take result bytes.new ≡ reading_spelling form (read_front rows.now.0 front.now) }
-{
-    let mut record = ArrayVec::<u8, 18743>::new();
-    add_front(rows, front, form, &mut record);
-    bytes[..record.len()].copy_from_slice(record.as_slice());
-    record.len() as u32
+    end as u32
 }
 
 /// Reads the slot whose turn it is from its 510 values, and writes its reading record, with certificates where
@@ -155,12 +137,12 @@ fn audit_for(verdict: SlotVerdict) -> TetraAudit
 
 /// Audits a claim of the length of the front's record.
 #[inline(never)]
-fn audit(rows: &AccessCode, front: &Front, claim: &[u8]) -> TetraAudit
+fn audit(code: &AccessCode, front: &Front, claim: &[u8]) -> TetraAudit
     requires front { IsFront front.now }
     requires size { length claim.now ≡ claim_length front.now }
-    ensures { result ≡ audit_for (slot_verdict rows.now front.now claim.now) }
+    ensures { result ≡ audit_for (slot_verdict code.now front.now claim.now) }
 {
-    audit_for(audit_slot_with(&mut Potentials::new(), rows, front, claim))
+    audit_for(audit_slot_with(&mut Potentials::new(), code, front, claim))
 }
 
 /// Audits a claim about the slot whose turn it is.

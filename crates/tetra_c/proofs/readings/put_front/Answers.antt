@@ -18,7 +18,7 @@ read_heard-requires c =
 
 pub loop-i-preserved : goal.loop-i-preserved
 loop-i-preserved c =
-    let rows = c.args.rows.now.0 in
+    let rows = c.args.code.now.0 in
     let items = c.args.front.now.fields.items in
     let i = c.loop-i.i in
     let is : c.index-deref-i.result ≡ get_or items i c.index-deref-i.result = rw c.deref.ensures.0 at c.index-deref-i.is in
@@ -37,7 +37,7 @@ loop-i-preserved c =
 pub returns : goal.returns
 unfolding read_front
 returns c =
-    let long = length-map c.args.front.now.fields.items (read_field c.args.rows.now.0) in
+    let long = length-map c.args.front.now.fields.items (read_field c.args.code.now.0) in
     record {
       letter = c.loop-i.invariant.letter;
       count = c.loop-i.invariant.count ∙ sym long;

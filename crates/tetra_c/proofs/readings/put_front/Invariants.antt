@@ -12,5 +12,5 @@ invariant-loop-i l = record {
   count : l.out.count ≡ length l.front.fields.items;
   size : length l.out.fields ≡ 4;
   fields : (k : ℕ) → k < l.i → (field : Field) (place : TetraField)
-      → IsPut (get_or (map (read_field l.rows.0) l.front.fields.items) k field) (get_or l.out.fields k place);
+      → IsPut (get_or (map (read_field l.code.0) l.front.fields.items) k field) (get_or l.out.fields k place);
 }

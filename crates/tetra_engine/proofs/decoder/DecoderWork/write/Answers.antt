@@ -19,7 +19,7 @@ returns-clause-stands g c xs x holds =
       };
     }
 
-pub put_reading-requires-clause-small : goal.put_reading-requires-clause-small
-put_reading-requires-clause-small g c =
+pub put_reading-len-requires-clause-small : goal.put_reading-len-requires-clause-small
+put_reading-len-requires-clause-small g c =
     let (xs, x, holds) = c.requires in
     small_fields _ (c.slot_into.ensures.bounded _ _ holds.stands.intake.receiver (nat_abs SOFT_MAX) (soft_slots xs) holds.holds.soft)

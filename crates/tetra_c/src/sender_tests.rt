@@ -72,7 +72,7 @@ fn sends(
     rt: &impl Abort,
     sender: &mut TetraSender,
     blocks: &TetraBlocks,
-    slot: &mut [u8; 510],
+    slot: &mut [i8; 510],
     wanted: i64,
 ) {
     is(

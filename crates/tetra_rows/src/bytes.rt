@@ -11,7 +11,8 @@ use std::test::Fail;
 /// - `n` and `p`: the two training sequences of a normal burst, EN 300 392-2 clause 9.4.4.3.2, likewise,
 /// - `full`: the uplink slot with SCH/F of 268 zeros under the zero key,
 /// - `data`: the uplink slot with TCH/7.2 of 432 zeros under the zero key,
-/// - `half`: the half slot with STCH of 124 zeros under the zero key.
+/// - `half`: the half slot with STCH of 124 zeros under the zero key,
+/// - `parity`: the end of the bits of SCH/F of 268 zeros: four of these, their 16 parity bits and four spare bits.
 pub fn bytes(alloc: Global, text: &str) -> Result<Vec<u8>, Fail> {
     let mut all = Vec::new(alloc);
     for word in text.split_whitespace() {
@@ -71,6 +72,7 @@ fn add_named(all: &mut Vec<u8>, word: &str) -> Result<bool, AllocError> {
     match word {
         "n" => add_bits(all, &TRAINING.map(|bit| bit == b'1'))?,
         "p" => add_bits(all, &stolen::TRAINING.map(|bit| bit == b'1'))?,
+        "parity" => all.extend_from_slice(&[0x07, 0xD7, 0x40])?,
         "key1" | "key2" | "full" | "data" | "half" => {
             add_keyed(all, word, &scrambling(&colour(0, 0, 0)))?;
         }

@@ -53,7 +53,7 @@ const READS: [Faults; 5] = [
     Faults {
         words: "decode dir=ul",
         input: "full full",
-        output: "46 47 00 00 33*00 07 D7 40 46 47 00 00 33*00 07 D7 40",
+        output: "46 47 00 00 33*00 parity 46 47 00 00 33*00 parity",
         piece: 510,
         calls: &[
             (1, 1, 0, "4 0 read failed after 0 slots"),
@@ -101,7 +101,7 @@ const WRITES: [Faults; 6] = [
     Faults {
         words: "decode dir=ul",
         input: "full",
-        output: "46 47 00 00 33*00 07 D7 40",
+        output: "46 47 00 00 33*00 parity",
         piece: 7,
         calls: &[
             (1, 6, 0, "5 0 write failed after 0 slots"),

@@ -119,13 +119,13 @@ const DECODED: [Row; 19] = [
     Row {
         words: "decode dir=ul",
         input: "full",
-        output: "46 47 00 00 33*00 07 D7 40",
+        output: "46 47 00 00 33*00 parity",
         end: "0 1 ",
     },
     Row {
         words: "decode dir=ul",
         input: "full ~39",
-        output: "46 47 00 7F 33*00 07 D7 40",
+        output: "46 47 00 7F 33*00 parity",
         end: "0 1 ",
     },
     Row {
@@ -191,7 +191,7 @@ const DECODED: [Row; 19] = [
     Row {
         words: "decode dir=ul max=1",
         input: "full full",
-        output: "46 47 00 00 33*00 07 D7 40",
+        output: "46 47 00 00 33*00 parity",
         end: "6 1 too long: 1 slots",
     },
     Row {

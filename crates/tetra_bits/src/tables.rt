@@ -14,15 +14,21 @@ pub trait Table {
         requires { rows ≤ 293 }
         ensures { length (rows_of self.new) ≡ rows };
 
+    /// The number of rows.
+    fn count(&self) -> usize
+        ensures { result ≡ length (rows_of self.now) };
+
     /// Row `t`, which counts from 0.
     fn row_at(&self, t: usize) -> &[u32; 16]
         requires { t < length (rows_of self.now) }
-        ensures { result.now ≡ slice_index_or (rows_of self.now) t [] };
+        ensures row { result.now ≡ slice_index_or (rows_of self.now) t [] }
+        ensures sixteen { length result.now ≡ 16 };
 
     /// Writes row `t`, which is there.
     fn put_row(&mut self, t: usize, row: [u32; 16])
         requires { t < length (rows_of self.old) }
-        ensures { rows_of self.new ≡ slice_set (rows_of self.old) t row };
+        ensures rows { rows_of self.new ≡ slice_set (rows_of self.old) t row }
+        ensures sixteen { length row ≡ 16 };
 }
 
 impl Table for Potentials {
@@ -30,6 +36,10 @@ impl Table for Potentials {
 
     fn begin(&mut self, rows: usize) {
         self.resize(rows);
+    }
+
+    fn count(&self) -> usize {
+        self.rows()
     }
 
     fn row_at(&self, t: usize) -> &[u32; 16] {

@@ -1,7 +1,9 @@
 -- The row behind the last step.
-use Rattle.std.proofs.Common.{◌≡◌, ℕ, ◌+◌, ◌-◌, ◌*◌, ◌<◌, ◌≤◌, false, cond, eqb, List, [], length, get_or, set, ℤ, arith, refl, sym, ◌∙◌, ap, get_or-set_same}
+use Rattle.std.proofs.Common.{◌≡◌, ℕ, ◌+◌, ◌-◌, ◌*◌, ◌<◌, ◌≤◌, inl, inr, false, cond, eqb, List, [], length, get_or, set, ℤ, arith, refl, sym, ◌∙◌, ap, get_or-set_same}
 use Rattle.std.proofs.Math.ListN.{length-set}
-use Rattle.tetra_bits.specs.Readings.{entry}
+use Rattle.std.proofs.lemmas.Bool.{cases_eq, cases_lt}
+use Rattle.std.proofs.lemmas.List.{get_or_default, get_or-set_other}
+use Rattle.tetra_bits.specs.Readings.{entry, HasRows}
 use Rattle.tetra_puncture.specs.Butterflies.{least_over, mark_at, way_over}
 use Rattle.tetra_puncture.specs.Plan.{CodePlan}
 use Rattle.tetra_puncture.specs.Trellis.{over_branch}
@@ -42,3 +44,38 @@ pub marks_made : (p : CodePlan) (wide : List ℤ) (rows : List (List ℕ)) (row 
 marks_made p wide rows row new mark u is made s h =
     let e : way_over p wide u row s false ≡ over_branch p wide rows u s false = ap (λ l. way_over p wide u l s false) is ∙ sym (over_is_way p wide rows u s false) in
     made s h ∙ ap (λ n. cond (eqb (get_or new s 0) n) 1 0) e
+
+above : (v u t : ℕ) → u ≤ v → t ≡ u + 1 → (v ≡ u → ⊥) → t ≤ v
+above v u t low next other = elim (cases_lt u v) [
+  | inl less ↦ omega arith
+  | inr more ↦ absurd (other (omega arith))
+]
+
+-- the rows from t on have an entry for each state
+abbrev pub SixteenFrom : List (List ℕ) → ℕ → Type 0
+SixteenFrom rows t = (u : ℕ) → t ≤ u → u < length rows → length (get_or rows u []) ≡ 16
+
+row_written : (rows : List (List ℕ)) (t u : ℕ) (new : List ℕ) → length new ≡ 16 → t < length rows → ((u ≡ t → ⊥) → length (get_or rows u []) ≡ 16)
+    → length (get_or (set rows t new) u []) ≡ 16
+row_written rows t u new is here old = elim (cases_eq u t) [
+  | inl same ↦ rw same (ap length (row_same rows t new here) ∙ is)
+  | inr other ↦ ap length (get_or-set_other rows t u new [] other) ∙ old other
+]
+
+-- one more row, in front of these
+pub sixteen_more : (rows : List (List ℕ)) (t u : ℕ) (new : List ℕ) → length new ≡ 16 → t ≡ u + 1 → u < length rows → SixteenFrom rows t → SixteenFrom (set rows u new) u
+sixteen_more rows t u new is next here all v low high =
+    let long : length (set rows u new) ≡ length rows = length-set rows u new in
+    row_written rows u v new is here (λ other. all v (above v u t low next other) (omega (arith, long)))
+
+-- the last row
+pub sixteen_first : (rows after : List (List ℕ)) (t : ℕ) (new : List ℕ) → length new ≡ 16 → length rows ≡ t + 1 → after ≡ set rows t new → SixteenFrom after t
+sixteen_first rows after t new is long made u low high =
+    let same : length (set rows t new) ≡ length rows = length-set rows t new in
+    let small : length after ≡ length (set rows t new) = ap length made in
+    let here : u ≡ t = omega (arith, small, same) in
+    rw (made, here) (ap length (row_same rows t new (omega arith)) ∙ is)
+
+-- all rows
+pub sixteen_all : (rows : List (List ℕ)) (t : ℕ) → t ≡ 0 → SixteenFrom rows t → HasRows rows
+sixteen_all rows t zero all k d inside = ap length (get_or_default rows k d [] inside) ∙ all k (omega arith) inside

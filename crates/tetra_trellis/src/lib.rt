@@ -9,7 +9,7 @@ mod rows;
 mod solving;
 mod tracing;
 
-pub use solving::{Solved, solve, solve_into};
+pub use solving::{Solved, solve, solve_into, solve_table};
 
 // The clauses say what is solved. Here two small plans are compared with all their messages, by the sent word and the
 // cost of each of its bits, over values so small that ties are frequent; and zeros, which say nothing, are solved.

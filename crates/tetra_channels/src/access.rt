@@ -1,12 +1,12 @@
 // The channel of the access field.
-ghost use Rattle.std.specs.Prelude.{◌≡◌, ◌≤◌, ◌<◌, ◌*◌, ◌^◌, ℕ, length};
+ghost use Rattle.std.specs.Prelude.{◌≡◌, ◌≤◌, ◌<◌, ◌*◌, ◌^◌, [], ℕ, length};
+ghost use Rattle.tetra_bits.specs.Parts.{InParts};
 ghost use Rattle.tetra_bits.specs.Soft.{AllWithin};
 ghost use Rattle.tetra_channels.specs.Channels.{access_bits};
 ghost use Rattle.tetra_channels.specs.Fields.{access_reading};
 ghost use Rattle.tetra_channels.specs.Laws.{UndamagedAccessIsRead};
 
-use crate::potentials::drop_potentials;
-use tetra_bits::{Bits, Mark, Reading, Soft};
+use tetra_bits::{Bits, Mark, Outcome, Reading, Soft};
 use tetra_rm::{AccessCode, Rows, encode, message_bits, undamaged_arrives};
 use tetra_scramble::{Key, flip_bits_in_place, flipped_back, stays_undamaged};
 
@@ -42,18 +42,17 @@ impl Aach {
         }
     }
 
-    /// The same into a reading that is there.
-    pub fn decode2_into(code: &AccessCode, soft: &Soft, reading: &mut Reading)
+    /// The same in parts: the message, 14 bits, over the bits that are there, and the mark and the metric as the answer.
+    pub fn decode2_into(code: &AccessCode, soft: &Soft, message: &mut Bits) -> Outcome
         requires { length soft.now ≡ 30 }
-        ensures reading { reading.new ≡ access_reading code.now.0 soft.now }
-        ensures size { length reading.new.bits ≡ 14 }
-        ensures within { (top : ℕ) → AllWithin top soft.now → reading.new.metric ≤ top * 30 }
+        ensures { InParts (access_reading code.now.0 soft.now) result message.new [] }
     {
         let read = code.decode(soft);
-        reading.mark = Mark::Unchecked;
-        reading.metric = read.metric;
-        reading.bits = message_bits(read.message);
-        drop_potentials(&mut reading.potentials);
+        *message = message_bits(read.message);
+        Outcome {
+            mark: Mark::Unchecked,
+            metric: read.metric,
+        }
     }
 
     /// Values that have the signs of the type-5 bits of a message, none of them 0, are read as that message.

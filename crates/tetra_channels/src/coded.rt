@@ -1,5 +1,6 @@
 // Coded channels.
 ghost use Rattle.std.specs.Prelude.{◌≡◌, ◌+◌, false, pos, length};
+ghost use Rattle.tetra_bits.specs.Parts.{InParts};
 ghost use Rattle.tetra_interleave.specs.Block.{block_place};
 ghost use Rattle.tetra_interleave.specs.Placed.{IsPlaced};
 ghost use Rattle.tetra_parity.specs.Marks.{IsMarked};
@@ -11,14 +12,14 @@ ghost use Rattle.tetra_channels.specs.Laws.{UndamagedIsRead, UndamagedWordArrive
 
 use crate::message::parity_of;
 use std::marker::PhantomData;
-use tetra_bits::{Bits, Mark, Potentials, Reading, Soft};
+use tetra_bits::{Bits, Outcome, Reading, Soft, Table};
 use tetra_interleave::{Block, blocks_are_one_to_one, stay_none_wrong, stay_undamaged};
 use tetra_parity::{blocks_are_good, mark, with_parity};
 use tetra_puncture::{P148, P292, Plan, TwoThirds, keep};
 use tetra_scramble::{
     Key, flip_bits_in_place, flip_soft, flipped_back, stays_none_wrong, stays_undamaged,
 };
-use tetra_trellis::solve_into;
+use tetra_trellis::{solve, solve_table};
 
 /// A coded channel (EN 300 392-2 clause 8): `PAR` parity bits, 16 or none, the plan `P` of its code,
 /// which sends `K3` bits, and the block interleaver (`K3`, `A`) with `A INV mod K3 = 1`. A block has
@@ -124,29 +125,27 @@ impl<const PAR: usize, const K3: usize, const A: usize, const INV: usize, P: Pla
         ensures sized { IsSized P.plan result }
         ensures bounded { IsBoundedBy P.plan soft.now result }
     {
-        let mut reading = Reading {
-            mark: Mark::Unchecked,
-            metric: 0,
-            bits: Bits::new(),
-            potentials: None,
-        };
-        Self::decode3_into(soft, &mut reading);
-        reading
+        let solved = solve::<P>(soft);
+        Reading {
+            mark: mark(parity_of::<PAR>(), &solved.message),
+            metric: solved.metric,
+            bits: solved.message,
+            potentials: Some(solved.potentials),
+        }
     }
 
-    /// The same into a reading that is there, whose potentials are filled in place.
-    pub fn decode3_into(soft: &Soft, reading: &mut Reading)
+    /// The same in parts, each over what is there: the message, `STEPS - 4` bits, the costs to go, `STEPS + 1` rows, into a
+    /// table, and the mark and the metric as the answer.
+    pub fn decode3_into<T: Table>(soft: &Soft, message: &mut Bits, table: &mut T) -> Outcome
         requires channel { IsChannel P.IsSound PAR K3 A INV P.plan }
         requires size { length soft.now ≡ K3 }
-        ensures reading { reading.new ≡ coded_reading (coded PAR A P.plan) soft.now }
-        ensures first_least { IsFirstLeast P.plan soft.now reading.new.bits }
-        ensures marked { IsMarked (parity_of PAR) reading.new.mark reading.new.bits }
-        ensures sized { IsSized P.plan reading.new }
-        ensures bounded { IsBoundedBy P.plan soft.now reading.new }
+        ensures { InParts (coded_reading (coded PAR A P.plan) soft.now) result message.new (T.rows_of table.new) }
     {
-        let potentials = reading.potentials.get_or_insert_with(Potentials::new);
-        reading.metric = solve_into::<P>(soft, &mut reading.bits, potentials);
-        reading.mark = mark(parity_of::<PAR>(), &reading.bits);
+        let metric = solve_table::<P, T>(soft, message, table);
+        Outcome {
+            mark: mark(parity_of::<PAR>(), message),
+            metric,
+        }
     }
 
     /// Values that have the signs of the type-5 bits of a block, none of them 0, are read as that block

@@ -1,11 +1,11 @@
 // The channel without a code.
-ghost use Rattle.std.specs.Prelude.{◌≡◌, length};
+ghost use Rattle.std.specs.Prelude.{◌≡◌, [], length};
+ghost use Rattle.tetra_bits.specs.Parts.{InParts};
 ghost use Rattle.tetra_channels.specs.Channels.{raw_bits};
 ghost use Rattle.tetra_channels.specs.Fields.{raw_reading};
 ghost use Rattle.tetra_channels.specs.Laws.{UndamagedRawIsRead, NoneWrongRawIsRead};
 
-use crate::potentials::drop_potentials;
-use tetra_bits::{Bits, Mark, Reading, Soft, read_plain};
+use tetra_bits::{Bits, Mark, Outcome, Reading, Soft, read_plain};
 use tetra_scramble::{Key, flip_bits, flipped_back, stays_none_wrong, stays_undamaged};
 
 /// TCH/7.2: a block of 432 bits that is only scrambled (EN 300 392-2 clause 8).
@@ -37,17 +37,17 @@ impl Raw72 {
         }
     }
 
-    /// The same into a reading that is there.
+    /// The same in parts: the message, 432 bits, over the bits that are there, and the mark and the metric as the answer.
     #[tactic(auto, unfolding(crate::specs::Fields::raw_reading))]
-    pub fn decode1_into(soft: &Soft, reading: &mut Reading)
+    pub fn decode1_into(soft: &Soft, message: &mut Bits) -> Outcome
         requires { length soft.now ≡ 432 }
-        ensures reading { reading.new ≡ raw_reading soft.now }
-        ensures size { length reading.new.bits ≡ 432 }
+        ensures { InParts (raw_reading soft.now) result message.new [] }
     {
-        reading.mark = Mark::Unchecked;
-        reading.metric = 0;
-        reading.bits = read_plain(soft);
-        drop_potentials(&mut reading.potentials);
+        *message = read_plain(soft);
+        Outcome {
+            mark: Mark::Unchecked,
+            metric: 0,
+        }
     }
 
     /// Values that have the signs of the type-5 bits of a block, none of them 0, are read as that block.

@@ -1,28 +1,11 @@
-use Rattle.std.proofs.Common.{◌*◌, ◌≤◌, arith, subst, sym, ap, ◌∙◌}
-use Rattle.std.proofs.lemmas.Option.{same_Some}
-use Rattle.tetra_bits.specs.Readings.{entry}
+use Rattle.std.proofs.Common.{ap, ◌∙◌}
 use Rattle.tetra_parity.specs.Marks.{mark_of}
 use Rattle.tetra_channels.specs.Channels.{coded}
-use Rattle.tetra_channels.proofs.Readings.{is_coded_reading, best_ranks}
+use Rattle.tetra_channels.proofs.Readings.{coded_in_parts}
 use Rattle.tetra_channels.proofs.coded.Coded.decode3_into.Goals as goal
 
-pub returns-clause-reading : goal.returns-clause-reading
-returns-clause-reading g c =
-    let soft = c.args.soft.now in
-    let solved = c.solve_into-reading.ensures in
-    is_coded_reading (coded g.row.PAR g.row.A g.P.Plan.plan) soft c.mark-reading.result c.solve_into-reading.result
-    c.solve_into-reading.new.message c.solve_into-reading.new.potentials (c.mark-reading.ensures.value ∙ ap (λ k. mark_of k c.solve_into-reading.new.message) c.parity_of.ensures) solved.metric solved.message solved.exact
-
-pub returns-clause-first_least : goal.returns-clause-first_least
-returns-clause-first_least g c = best_ranks g.P.Plan.plan c.args.soft.now c.solve_into-reading.new.message c.solve_into-reading.ensures.message
-
-pub returns-clause-bounded : goal.returns-clause-bounded
-returns-clause-bounded g c = λ top all. record {
-  metric =
-      subst (λ n. c.solve_into-reading.result ≤ top * n) (sym g.met.P.Plan.same_sent)
-      (c.solve_into-reading.ensures.metric_within top all);
-  numbers = λ table is t s h k.
-      let small = c.solve_into-reading.ensures.within top t s all (omega (arith, h, g.met.P.Plan.same_steps)) k in
-      subst (λ rows. entry rows t s ≤ top * g.P.Plan.plan.sent) (same_Some c.solve_into-reading.new.potentials table is)
-      (subst (λ n. entry c.solve_into-reading.new.potentials t s ≤ top * n) (sym g.met.P.Plan.same_sent) small);
-}
+pub returns : goal.returns
+returns g c =
+    let solved = c.solve_table-metric.ensures in
+    coded_in_parts (coded g.row.PAR g.row.A g.P.Plan.plan) c.args.soft.now c.mark.result c.solve_table-metric.result
+    c.solve_table-metric.new.message (g.T.Table.rows_of c.solve_table-metric.new.table) (c.mark.ensures.value ∙ ap (λ k. mark_of k c.solve_table-metric.new.message) c.parity_of.ensures) solved.metric solved.message solved.exact

@@ -1,6 +1,7 @@
 -- What is read of speech from what the decoder answers.
-use Rattle.std.proofs.Common.{◌≡◌, ℕ, Bool, List, take, drop, Some, refl}
+use Rattle.std.proofs.Common.{◌≡◌, ℕ, Bool, List, take, drop, Some, refl, subst}
 use Rattle.std.specs.Prelude.{ℤ}
+use Rattle.tetra_bits.specs.Parts.{InParts}
 use Rattle.tetra_bits.specs.Plain.{best_plain}
 use Rattle.tetra_bits.specs.declared.reading.Mark.{Mark}
 use Rattle.tetra_bits.specs.declared.reading.Reading.{Reading}
@@ -49,3 +50,10 @@ whole_reading_is soft = refl
 pub half_reading_is : (soft : List ℤ) → reading_over speech_half Four 51 56 half_bits soft ≡ half_reading soft
 unfolding half_reading
 half_reading_is soft = refl
+
+-- the parts of a reading
+pub in_parts : (mark : Mark) (metric : ℕ) (bits : List Bool) (rows : List (List ℕ)) (reading : Reading)
+    → ◌≡◌ {A = Reading} (record { mark = mark; metric = metric; bits = bits; potentials = Some rows }) reading
+    → InParts reading (record { mark = mark; metric = metric }) bits rows
+in_parts mark metric bits rows reading is =
+    subst (λ r. InParts r (record { mark = mark; metric = metric }) bits rows) is (record { mark = refl; metric = refl; bits = refl; rows = refl })

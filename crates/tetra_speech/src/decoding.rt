@@ -1,15 +1,16 @@
 // Soft values to frames.
 ghost use Rattle.std.specs.Prelude.{◌≡◌, ◌≤◌, ◌+◌, length, take, drop};
+ghost use Rattle.tetra_bits.specs.Parts.{InParts};
 ghost use Rattle.tetra_bits.specs.Plain.{best_plain};
 ghost use Rattle.tetra_speech.specs.Reading.{whole_reading, half_reading};
 ghost use Rattle.tetra_speech.specs.Words.{whole_front, half_front};
 
 use crate::frames::{half_bits_into, part, whole_bits_into};
-use tetra_bits::{Bits, Mark, Potentials, Reading, Soft};
+use tetra_bits::{Bits, Outcome, Potentials, Reading, Soft, Table};
 use tetra_interleave::Matrix;
 use tetra_parity::{Parity, mark};
 use tetra_puncture::{SpeechHalf, SpeechWhole};
-use tetra_trellis::solve_into;
+use tetra_trellis::solve_table;
 
 /// Received values of the 432 type-4 bits of a whole slot in the order of type-3 bits, into a list that is there.
 pub fn whole_front_into(soft: &Soft, values: &mut Soft)
@@ -37,22 +38,31 @@ pub fn decode_whole(soft: &Soft) -> Reading
     ensures reading { result ≡ whole_reading soft.now }
     ensures size { length result.bits ≡ 282 }
 {
-    let mut reading = nothing();
-    decode_whole_into(soft, &mut reading);
-    reading
+    let mut bits = Bits::new();
+    let mut potentials = Potentials::new();
+    let outcome = decode_whole_into(soft, &mut bits, &mut potentials);
+    Reading {
+        mark: outcome.mark,
+        metric: outcome.metric,
+        bits,
+        potentials: Some(potentials),
+    }
 }
 
-/// The same into a reading that is there, whose potentials are filled in place.
-pub fn decode_whole_into(soft: &Soft, reading: &mut Reading)
+/// The same in parts, each over what is there: the message, 282 bits, the costs to go, 185 rows, into a table, and the mark
+/// and the metric as the answer.
+pub fn decode_whole_into<T: Table>(soft: &Soft, message: &mut Bits, table: &mut T) -> Outcome
     requires { length soft.now ≡ 432 }
-    ensures reading { reading.new ≡ whole_reading soft.now }
-    ensures size { length reading.new.bits ≡ 282 }
+    ensures parts { InParts (whole_reading soft.now) result message.new (T.rows_of table.new) }
+    ensures size { length message.new ≡ 282 }
 {
-    let mut message = Bits::new();
-    let potentials = reading.potentials.get_or_insert_with(Potentials::new);
-    reading.metric = solve_into::<SpeechWhole>(&values(soft, 102, 330), &mut message, potentials);
-    reading.mark = mark(Parity::Eight, &part(&message, 112, 68));
-    whole_bits_into(&plain_front(soft, 102), &message, &mut reading.bits);
+    let mut coded = Bits::new();
+    let metric = solve_table::<SpeechWhole, T>(&values(soft, 102, 330), &mut coded, table);
+    whole_bits_into(&plain_front(soft, 102), &coded, message);
+    Outcome {
+        mark: mark(Parity::Eight, &part(&coded, 112, 68)),
+        metric,
+    }
 }
 
 /// What is read over the 216 type-3 values of half a slot: a frame and 4 parity bits, in the same way.
@@ -61,22 +71,31 @@ pub fn decode_half(soft: &Soft) -> Reading
     ensures reading { result ≡ half_reading soft.now }
     ensures size { length result.bits ≡ 141 }
 {
-    let mut reading = nothing();
-    decode_half_into(soft, &mut reading);
-    reading
+    let mut bits = Bits::new();
+    let mut potentials = Potentials::new();
+    let outcome = decode_half_into(soft, &mut bits, &mut potentials);
+    Reading {
+        mark: outcome.mark,
+        metric: outcome.metric,
+        bits,
+        potentials: Some(potentials),
+    }
 }
 
-/// The same into a reading that is there, whose potentials are filled in place.
-pub fn decode_half_into(soft: &Soft, reading: &mut Reading)
+/// The same in parts, each over what is there: the message, 141 bits, the costs to go, 95 rows, into a table, and the mark
+/// and the metric as the answer.
+pub fn decode_half_into<T: Table>(soft: &Soft, message: &mut Bits, table: &mut T) -> Outcome
     requires { length soft.now ≡ 216 }
-    ensures reading { reading.new ≡ half_reading soft.now }
-    ensures size { length reading.new.bits ≡ 141 }
+    ensures parts { InParts (half_reading soft.now) result message.new (T.rows_of table.new) }
+    ensures size { length message.new ≡ 141 }
 {
-    let mut message = Bits::new();
-    let potentials = reading.potentials.get_or_insert_with(Potentials::new);
-    reading.metric = solve_into::<SpeechHalf>(&values(soft, 51, 165), &mut message, potentials);
-    reading.mark = mark(Parity::Four, &part(&message, 56, 34));
-    half_bits_into(&plain_front(soft, 51), &message, &mut reading.bits);
+    let mut coded = Bits::new();
+    let metric = solve_table::<SpeechHalf, T>(&values(soft, 51, 165), &mut coded, table);
+    half_bits_into(&plain_front(soft, 51), &coded, message);
+    Outcome {
+        mark: mark(Parity::Four, &part(&coded, 56, 34)),
+        metric,
+    }
 }
 
 /// So many values from the one at `from` on, which counts from 0.
@@ -106,14 +125,4 @@ fn plain_front(soft: &Soft, count: usize) -> Bits
         bits.set(i, soft.get(i) < 0);
     }
     bits
-}
-
-/// A reading without bits, to be written over.
-fn nothing() -> Reading {
-    Reading {
-        mark: Mark::Unchecked,
-        metric: 0,
-        bits: Bits::new(),
-        potentials: None,
-    }
 }

@@ -1,3 +1,3 @@
 pub mod Numbers
-pub mod Window
 pub mod Recurrence
+pub mod Table

@@ -11,64 +11,12 @@ use Rattle.tetra_bits.specs.Sums.{bit_number}
 use Rattle.tetra_bits.specs.Digits.{digit, digits}
 use Rattle.tetra_scramble.specs.Colour.{IsColour, colour_bits}
 use Rattle.tetra_scramble.specs.Key.{no_colour}
-use Rattle.tetra_scramble.specs.Register.{number_of}
 use Rattle.tetra_scramble.specs.declared.colour.Colour.{Colour}
 
-first_digit : (b : Bool) (p n : ℕ) → n < p → bit_number b * p + n < 2 * p
-first_digit true p n h = omega arith
-first_digit false p n h = omega arith
-
-pub number_of-lt : (f : ℕ → Bool) (k n : ℕ) → number_of f k n < 2 ^ n
-unfolding number_of
-number_of-lt f k zero = omega arith
-number_of-lt f k (suc n) = rw (pow-succ' 2 n) (first_digit (f k) (2 ^ n) (number_of f (suc k) n) (number_of-lt f (suc k) n))
-
--- the same digits
-pub number_of-same : (f g : ℕ → Bool) (k l n : ℕ) → ((j : ℕ) → j < n → f (k + j) ≡ g (l + j)) → number_of f k n ≡ number_of g l n
-unfolding number_of
-number_of-same f g k l zero e = refl
-number_of-same f g k l (suc n) e =
-    let first : f k ≡ g l = ap f (omega arith) ∙ e 0 (omega arith) ∙ ap g (omega arith) in
-    let more : number_of f (suc k) n ≡ number_of g (suc l) n = number_of-same f g (suc k) (suc l) n (λ j h. ap f (omega arith) ∙ e (suc j) (omega arith) ∙ ap g (omega arith)) in
-    rw (first, more) refl
-
-two_parts : (d p q pq n a b : ℕ) → pq ≡ p * q → n ≡ a * q + b → d * pq + n ≡ (d * p + a) * q + b
-two_parts d p q pq n a b e h = rw (e, h) (omega arith)
-
--- the digits in two parts
-pub number_of-cat : (f : ℕ → Bool) (k a b : ℕ) → number_of f k (a + b) ≡ number_of f k a * 2 ^ b + number_of f (k + a) b
-unfolding number_of
-number_of-cat f k zero b =
-    let n : 0 + b ≡ b = omega arith in
-    let m : k + 0 ≡ k = omega arith in
-    rw (n, m) (omega arith)
-number_of-cat f k (suc a) b =
-    let e : number_of f (suc k) (a + b) ≡ number_of f (suc k) a * 2 ^ b + number_of f (suc k + a) b = number_of-cat f (suc k) a b in
-    let p : 2 ^ (a + b) ≡ 2 ^ a * 2 ^ b = pow-add 2 a b in
-    let s : suc a + b ≡ suc (a + b) = omega arith in
-    let m : suc k + a ≡ k + suc a = omega arith in
-    ap (λ n. number_of f k n) s ∙ two_parts (bit_number (f k)) (2 ^ a) (2 ^ b) (2 ^ (a + b)) (number_of f (suc k) (a + b)) (number_of f (suc k) a) (number_of f (suc k + a) b) p e ∙ ap (λ n. (bit_number (f k) * 2 ^ a + number_of f (suc k) a) * 2 ^ b + number_of f n b) m
-
-number_of_rest : (n : ℕ) → n < 2 → bit_number (nat_eq n 1) ≡ n
+pub number_of_rest : (n : ℕ) → n < 2 → bit_number (nat_eq n 1) ≡ n
 number_of_rest zero h = refl
 number_of_rest (suc zero) h = refl
 number_of_rest (suc (suc n)) h = absurd (omega arith)
-
-bit_number-digit : (n number k : ℕ) → bit_number (digit n number k) ≡ number / 2 ^ (n - k) % 2
-unfolding digit
-bit_number-digit n number k = number_of_rest (number / 2 ^ (n - k) % 2) (omega arith)
-
--- the last n digits of a number
-pub number_of-digit : (all number k n : ℕ) → k + n ≡ all + 1 → number_of (digit all number) k n ≡ number % 2 ^ n
-unfolding number_of
-number_of-digit all number k zero e = omega arith
-number_of-digit all number k (suc n) e =
-    let h : number_of (digit all number) (suc k) n ≡ number % 2 ^ n = number_of-digit all number (suc k) n (omega arith) in
-    let d : bit_number (digit all number k) ≡ number / 2 ^ (all - k) % 2 = bit_number-digit all number k in
-    let i : all - k ≡ n = omega arith in
-    let s : suc n ≡ 1 + n = omega arith in
-    let m : number % 2 ^ (1 + n) ≡ (number / 2 ^ n % 2 ^ 1) * 2 ^ n + number % 2 ^ n = mod-pow-add number 1 n in
-    rw (d, i, h, s) (sym m)
 
 -- the three numbers of a colour in one, as the code computes it
 pub three_in_one : (x y z : ℕ) → x ≤ 1023 → y ≤ 16383 → z ≤ 63 → bit_or (bit_or (x * 1048576 % 4294967296) (y * 64 % 4294967296)) z ≡ (x * 16384 + y) * 64 + z

@@ -26,7 +26,7 @@ sum-same : (f g : ℕ → Bool) → ((i : ℕ) → 1 ≤ i → i ≤ 32 → f i 
 sum-same f g e = sum2_over-same distances f g in_reach e
 
 -- a place of the past is a bit of the key
-past_at : (e : List Bool) (m i : ℕ) → i ≤ m → bit_at (past e m) i ≡ key_bit e (m - i)
+pub past_at : (e : List Bool) (m i : ℕ) → i ≤ m → bit_at (past e m) i ≡ key_bit e (m - i)
 unfolding past key_bit
 past_at e m zero h = let s : m - 0 ≡ m = omega arith in rw s refl
 past_at e zero (suc i) h = absurd (omega arith)

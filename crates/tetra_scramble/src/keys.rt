@@ -3,13 +3,12 @@ ghost use Rattle.std.specs.Prelude.{◌≡◌, ◌<◌, Bool, List, length};
 ghost use Rattle.tetra_bits.specs.Order.{bit_at};
 
 use std::marker::Model;
-use tetra_bits::Bits;
 
 /// The first 432 bits of a scrambling sequence, numbered from 1 (EN 300 392-2 clause 8.2.5). Seen as the list of its
 /// bits.
 #[derive(Drop)]
 pub struct Key {
-    bits: Bits,
+    bits: [bool; 432],
 }
 
 impl Model for Key {
@@ -22,8 +21,7 @@ impl Model for Key {
 
 impl Key {
     /// The key with these bits.
-    pub(crate) fn of_bits(bits: Bits) -> Key
-        requires { length bits ≡ 432 }
+    pub(crate) fn of_bits(bits: [bool; 432]) -> Key
         ensures { result ≡ bits }
     {
         Key { bits }
@@ -35,6 +33,6 @@ impl Key {
         ensures value { result ≡ bit_at self.now i }
         ensures size { length self.now ≡ 432 }
     {
-        self.bits.get(i)
+        self.bits[i]
     }
 }

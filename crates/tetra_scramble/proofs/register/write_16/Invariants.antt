@@ -1,0 +1,12 @@
+use Rattle.std.proofs.Common.{◌≡◌, ℕ, ◌+◌, ◌-◌, ◌<◌, length, Bool, List}
+use Rattle.tetra_bits.specs.Digits.{digit}
+use Rattle.tetra_bits.specs.Order.{bit_at}
+use Rattle.tetra_scramble.specs.Register.{IsWritten, AreNext}
+use Rattle.tetra_scramble.proofs.register.write_16.Given as goal
+
+abbrev pub invariant-loop-j : goal.invariant-loop-j
+invariant-loop-j l =
+    record {
+      size : length l.bits ≡ 432;
+      key : (e : List Bool) → IsWritten e l.fn.from l.initial.bits → AreNext e l.fn.from l.next → IsWritten e (l.fn.from + l.j) l.bits;
+    }

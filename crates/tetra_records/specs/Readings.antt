@@ -1,9 +1,10 @@
 -- How a reading is spelled. Numbers of two bytes have the higher byte first. This project's own.
-use Rattle.std.specs.Prelude.{ℕ, ◌≤◌, ◌/◌, ◌%◌, List, [], ◌∷◌, ◌++◌, None, Some}
+use Rattle.std.specs.Prelude.{ℕ, ◌≤◌, ◌/◌, ◌%◌, Bool, List, [], ◌∷◌, ◌++◌, None, Some}
 use Rattle.std.specs.List.{flat_map}
 use Rattle.std.specs.declared.option.Option.{Option}
 use Rattle.tetra_bits.specs.Packed.{packed}
 use Rattle.tetra_bits.specs.Readings.{entry, mark_byte}
+use Rattle.tetra_bits.specs.declared.reading.Outcome.{Outcome}
 use Rattle.tetra_settings.specs.declared.readings.Field.{Field}
 use Rattle.tetra_settings.specs.declared.readings.SlotReading.{SlotReading}
 use Rattle.tetra_settings.specs.declared.types.Form.{Form}
@@ -33,6 +34,16 @@ field_bytes form field =
     (mark_byte field.reading.mark ∷ two_bytes field.reading.metric) ++ packed field.reading.bits
     ++ certificate_bytes form field.reading.potentials
 
+-- the rows of a table where a record has them: in form audit
+abbrev pub rows_written : Form → List (List ℕ) → List ℕ
+rows_written Plain rows = []
+rows_written Audit rows = table_bytes rows
+
+-- a field that was read in parts: its mark, its metric, its message, and its rows
+unfoldable pub parts_bytes : Form → Outcome → List Bool → List (List ℕ) → List ℕ
+parts_bytes form outcome message rows =
+    (mark_byte outcome.mark ∷ two_bytes outcome.metric) ++ packed message ++ rows_written form rows
+
 -- a reading: its letter and its fields
 unfoldable pub reading_spelling : Form → SlotReading → List ℕ
 reading_spelling form reading = (reading.letter ∷ []) ++ flat_map (field_bytes form) reading.fields.items
@@ -46,3 +57,8 @@ AreSmall (Some rows) = (t s : ℕ) → entry rows t s ≤ 65535
 pub record IsSmall (field : Field) : Type 0 where
   pub metric : field.reading.metric ≤ 65535
   pub potentials : AreSmall field.reading.potentials
+
+-- the metric of a field that was read in parts and each entry of its rows fit two bytes
+pub record ArePartsSmall (outcome : Outcome) (rows : List (List ℕ)) : Type 0 where
+  pub metric : outcome.metric ≤ 65535
+  pub entries : (t s : ℕ) → entry rows t s ≤ 65535

@@ -10,7 +10,9 @@ mod spelling;
 
 pub use faults::{NextFault, RecordFault};
 pub use laws::records_are_unambiguous;
-pub use readings::{add_field, add_reading, reading_bytes, write_field, write_reading};
+pub use readings::{
+    add_field, add_reading, reading_bytes, write_field, write_parts, write_reading,
+};
 pub use records::next_record;
 pub use spelling::block_bytes;
 

@@ -5,12 +5,12 @@ ghost use Rattle.arrayvec.specs.ArrayVec.{array_vec_len};
 ghost use Rattle.tetra_bits.specs.Readings.{entry, mark_byte};
 ghost use Rattle.tetra_bits.specs.Packed.{bytes_for, packed};
 ghost use Rattle.tetra_settings.specs.Readings.{IsWellFormed, IsField};
-ghost use Rattle.tetra_records.specs.Readings.{two_bytes, row_bytes, table_bytes, field_bytes, reading_spelling, IsSmall};
+ghost use Rattle.tetra_records.specs.Readings.{two_bytes, row_bytes, table_bytes, field_bytes, parts_bytes, reading_spelling, IsSmall, ArePartsSmall};
 ghost use Rattle.tetra_records.specs.Rooms.{room_of};
 
 use arrayvec::ArrayVec;
 use std::simd::prelude::*;
-use tetra_bits::{Potentials, Reading, pack};
+use tetra_bits::{Bits, Outcome, Potentials, Table, pack};
 use tetra_settings::{Field, Form, SlotReading};
 
 /// The reading record: a letter, and for each field a mark, a metric of two bytes, the bits packed, and
@@ -82,7 +82,6 @@ pub fn add_field<const N: usize>(field: &Field, form: Form, out: &mut ArrayVec<u
 
 /// Writes what `add_field` appends into `bytes`, from place `at` on, over what stands there, and answers where it ends. So a
 /// record is made in place, field by field. Metric and potentials are at most 65,535, and there is room for the field.
-#[tactic(auto, unfolding(crate::specs::Readings::field_bytes))]
 pub fn write_field(field: &Field, form: Form, bytes: &mut [u8], at: usize) -> usize
     requires field { IsField field.now }
     requires small { IsSmall field.now }
@@ -91,31 +90,59 @@ pub fn write_field(field: &Field, form: Form, bytes: &mut [u8], at: usize) -> us
     ensures end { result ≤ at + room_of field.now.name }
     ensures size { length bytes.new ≡ length bytes.old }
 {
-    let end = put_head(&field.reading, bytes, at);
-    if let (Form::Audit, Some(potentials)) = (form, &field.reading.potentials) {
-        put_table(potentials, bytes, end)
-    } else {
-        end
+    let reading = &field.reading;
+    let outcome = Outcome {
+        mark: reading.mark,
+        metric: reading.metric,
+    };
+    match &reading.potentials {
+        Some(potentials) => write_parts(outcome, &reading.bits, potentials, form, bytes, at),
+        None => put_head(outcome, &reading.bits, bytes, at),
+    }
+}
+
+/// Writes what `write_field` writes from a field that was read in parts, from place `at` on, and answers where it ends: its
+/// outcome, its message packed, and in form `Audit` the rows of its table, two bytes for each entry. A field without a
+/// certificate has a table without rows. Metric and entries are at most 65,535, and there is room for the field, its rows
+/// included. This project's own.
+#[tactic(auto, unfolding(crate::specs::Readings::parts_bytes))]
+pub fn write_parts<T: Table>(
+    outcome: Outcome,
+    message: &Bits,
+    table: &T,
+    form: Form,
+    bytes: &mut [u8],
+    at: usize,
+) -> usize
+    requires small { ArePartsSmall outcome (T.rows_of table.now) }
+    requires room { at + 3 + bytes_for (length message.now) + 32 * length (T.rows_of table.now) ≤ length bytes.old }
+    ensures bytes { take result bytes.new ≡ take at bytes.old ++ parts_bytes form outcome message.now (T.rows_of table.now) }
+    ensures end { result ≤ at + 3 + bytes_for (length message.now) + 32 * length (T.rows_of table.now) }
+    ensures size { length bytes.new ≡ length bytes.old }
+{
+    let end = put_head(outcome, message, bytes, at);
+    match form {
+        Form::Plain => end,
+        Form::Audit => put_table(table, bytes, end),
     }
 }
 
 /// Writes the mark, the metric and the bits of a field at a place, and answers where they end.
-fn put_head(reading: &Reading, bytes: &mut [u8], at: usize) -> usize
-    requires small { reading.now.metric ≤ 65535 }
-    requires room { at + 3 + bytes_for (length reading.now.bits) ≤ length bytes.old }
+fn put_head(outcome: Outcome, message: &Bits, bytes: &mut [u8], at: usize) -> usize
+    requires small { outcome.metric ≤ 65535 }
+    requires room { at + 3 + bytes_for (length message.now) ≤ length bytes.old }
     ensures bytes { take result bytes.new
-        ≡ take at bytes.old ++ (mark_byte reading.now.mark ∷ two_bytes reading.now.metric) ++ packed reading.now.bits }
-    ensures end { result ≡ at + 3 + bytes_for (length reading.now.bits) }
+        ≡ take at bytes.old ++ (mark_byte outcome.mark ∷ two_bytes outcome.metric) ++ packed message.now }
+    ensures end { result ≡ at + 3 + bytes_for (length message.now) }
     ensures size { length bytes.new ≡ length bytes.old }
 {
-    let metric = reading.metric;
     let head = [
-        reading.mark.byte(),
-        (metric / 256) as u8,
-        (metric % 256) as u8,
+        outcome.mark.byte(),
+        (outcome.metric / 256) as u8,
+        (outcome.metric % 256) as u8,
     ];
     let end = put_bytes(&head, bytes, at);
-    put_bytes(pack(&reading.bits).as_slice(), bytes, end)
+    put_bytes(pack(message).as_slice(), bytes, end)
 }
 
 /// Writes bytes at a place, and answers where they end.
@@ -165,17 +192,17 @@ fn put_row(row: &[u32; 16], bytes: &mut [u8], at: usize)
 
 /// Writes a table at a place, row by row, and answers where it ends.
 #[tactic(auto, unfolding(tetra_bits::specs::Readings::entry))]
-fn put_table(potentials: &Potentials, bytes: &mut [u8], at: usize) -> usize
-    requires small { (t s : ℕ) → entry potentials.now t s ≤ 65535 }
-    requires room { at + 32 * length potentials.now ≤ length bytes.old }
-    ensures bytes { take result bytes.new ≡ take at bytes.old ++ table_bytes potentials.now }
-    ensures end { result ≡ at + 32 * length potentials.now }
+fn put_table<T: Table>(table: &T, bytes: &mut [u8], at: usize) -> usize
+    requires small { (t s : ℕ) → entry (T.rows_of table.now) t s ≤ 65535 }
+    requires room { at + 32 * length (T.rows_of table.now) ≤ length bytes.old }
+    ensures bytes { take result bytes.new ≡ take at bytes.old ++ table_bytes (T.rows_of table.now) }
+    ensures end { result ≡ at + 32 * length (T.rows_of table.now) }
     ensures size { length bytes.new ≡ length bytes.old }
 {
-    for t in 0..potentials.rows() {
-        put_row(potentials.row(t), bytes, at + 32 * t);
+    for t in 0..table.count() {
+        put_row(table.row_at(t), bytes, at + 32 * t);
     }
-    at + 32 * potentials.rows()
+    at + 32 * table.count()
 }
 
 /// Makes a list longer by so many zeros, at most 1,024 at a time.

@@ -15,11 +15,6 @@ cell_in_order rows cols row col lr lc =
     let place : row * cols + col < cols * rows = mul-add-lt row cols col rows lr lc in
     omega arith
 
-pub cell_in_column : (rows cols row col : ℕ) → row < rows → col < cols → rows * col + row < rows * cols
-cell_in_column rows cols row col lr lc =
-    let place : col * rows + row < rows * cols = mul-add-lt col rows row cols lc lr in
-    omega arith
-
 module _ {X : Type 0} where
   -- one entry of a row more
   pub row_more : (d : X) (rows cols row col : ℕ) (x old new : List X) (v : X) → row < rows → col < cols → length old ≡ rows * cols

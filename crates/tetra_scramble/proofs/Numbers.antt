@@ -1,9 +1,8 @@
 -- Numbers by their binary digits, the most significant first.
 use Prim.Native.Nat.{zero, suc}
-use Rattle.std.proofs.Common.{◌≡◌, ℕ, ◌+◌, ◌-◌, ◌*◌, ◌/◌, ◌%◌, ◌^◌, ◌<◌, ◌≤◌, Bool, true, false, nat_eq, ◌++◌, length, arith, refl, ap, sym, ◌∙◌}
-use Rattle.std.proofs.Math.Nat.{pow-succ'}
+use Rattle.std.proofs.Common.{◌≡◌, ℕ, ◌+◌, ◌*◌, ◌%◌, ◌^◌, ◌<◌, ◌≤◌, false, nat_eq, ◌++◌, length, arith, refl, ap, ◌∙◌}
 use Rattle.std.proofs.lemmas.List.{length-append}
-use Rattle.std.proofs.lemmas.Nat.{mod-pow-add, pow-add, or_shifted}
+use Rattle.std.proofs.lemmas.Nat.{or_shifted}
 use Rattle.std.specs.Int.Bits.{bit_or}
 use Rattle.tetra_bits.specs.Numbered.{length-numbered, numbered_same}
 use Rattle.tetra_bits.specs.lemmas.Digits.{length-digits, digits-cat, no_digit}

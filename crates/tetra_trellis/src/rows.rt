@@ -11,12 +11,7 @@ use tetra_bits::{Table, Wide};
 use tetra_puncture::{Labels, MarkedRow, Plan, is_paired};
 
 /// Fills the table with the costs to go, and marks the states of each free step at which bit 0 gives the entry.
-pub fn fill<P: Plan, T: Table>(
-    wide: &Wide,
-    labels: &Labels,
-    table: &mut T,
-    marks: &mut [u16; 288],
-)
+pub fn fill<P: Plan, T: Table>(wide: &Wide, labels: &Labels, table: &mut T, marks: &mut [u16; 288])
     requires sound { P.IsSound }
     requires size { length wide.now ≡ P.plan.outs * P.plan.steps }
     requires soft { AllSoft wide.now }

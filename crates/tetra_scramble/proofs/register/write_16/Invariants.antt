@@ -1,6 +1,4 @@
-use Rattle.std.proofs.Common.{◌≡◌, ℕ, ◌+◌, ◌-◌, ◌<◌, length, Bool, List}
-use Rattle.tetra_bits.specs.Digits.{digit}
-use Rattle.tetra_bits.specs.Order.{bit_at}
+use Rattle.std.proofs.Common.{◌≡◌, ◌+◌, length, Bool, List}
 use Rattle.tetra_scramble.specs.Register.{IsWritten, AreNext}
 use Rattle.tetra_scramble.proofs.register.write_16.Given as goal
 

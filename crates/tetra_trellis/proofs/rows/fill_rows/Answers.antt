@@ -2,7 +2,7 @@ use Rattle.std.proofs.Common.{◌≡◌, ◌+◌, ◌-◌, ◌∙◌, length, ar
 use Rattle.std.proofs.Math.ListN.{length-set}
 use Rattle.tetra_puncture.specs.lemmas.Marks.{marks_start, marks_step}
 use Rattle.tetra_puncture.specs.lemmas.Rows.{back_step}
-use Rattle.tetra_trellis.proofs.Back.{room_behind, least_made, marks_made, sixteen_more, sixteen_all}
+use Rattle.tetra_trellis.proofs.Back.{room_behind, least_made, marks_made, sixteen_more}
 use Rattle.tetra_trellis.proofs.rows.fill_rows.Goals as goal
 
 pub loop-t-init : goal.loop-t-init

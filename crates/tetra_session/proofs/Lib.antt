@@ -1,4 +1,5 @@
 pub mod Fitting
+pub mod InParts
 pub mod Lanes
 pub mod Turning
 pub mod FittingData

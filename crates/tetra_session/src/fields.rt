@@ -1,12 +1,13 @@
 // The letter and the fields of a slot.
-ghost use Rattle.std.specs.Prelude.{◌≡◌, ◌≤◌, ◌++◌, ◌∷◌, ◌-◌, [], ℕ, Bool, List, ℤ, length, map, drop, false, None, slice_index_or, slice_set, All, IfSome, MatchOption, IsTrue, nat_abs};
+ghost use Rattle.std.specs.Prelude.{◌≡◌, ◌≢◌, ◌≤◌, ◌++◌, ◌∷◌, ◌-◌, [], ℕ, Bool, List, ℤ, length, map, drop, false, None, slice_index_or, slice_set, All, IfSome, MatchOption, IsTrue, nat_abs};
 ghost use Rattle.arrayvec.specs.ArrayVec.{array_vec_len};
+ghost use Rattle.tetra_bits.specs.Parts.{InParts};
 ghost use Rattle.tetra_bits.specs.Soft.{AllSoft};
 ghost use Rattle.tetra_bits.specs.declared.soft.TheConstants.{SOFT_MAX};
 ghost use Rattle.tetra_channels.specs.Channels.{half};
 ghost use Rattle.tetra_channels.specs.Fields.{coded_reading};
 ghost use Rattle.tetra_diag.specs.Diagonal.{gathered};
-ghost use Rattle.tetra_settings.specs.Readings.{IsField, sizes};
+ghost use Rattle.tetra_settings.specs.Readings.{IsField, certificate_rows, sizes};
 ghost use Rattle.tetra_settings.specs.declared.slots.Letter.TheVariants as Letter;
 ghost use Rattle.tetra_session.specs.Time.{MayBeDepth};
 ghost use Rattle.tetra_session.specs.Heard.{allowed_in, letter_by, place_values, second_stolen, is_good, is_spread, field_heard, field_of_place};
@@ -19,7 +20,7 @@ use crate::gathering::Gathers;
 use crate::spots::{Place, load_place, spot_into};
 use crate::tables::Tables;
 use arrayvec::ArrayVec;
-use tetra_bits::{Bits, Mark, Reading, Soft};
+use tetra_bits::{Bits, Mark, Outcome, Potentials, Reading, Soft, Table};
 use tetra_bursts::{Allowed, Train};
 use tetra_channels::{Aach, Bsch, Data24, Data48, Full, Half, Hu, Raw72, drop_potentials};
 use tetra_rm::AccessCode;
@@ -186,22 +187,79 @@ pub fn block_is_soft(block: &Option<Soft>)
     }
 }
 
+/// What is read of the values of a field that has a trellis, in parts: the message over the bits that are there, the costs
+/// to go into a table, and the mark and the metric as the answer.
+fn read_coded<T: Table>(name: FieldName, soft: &Soft, message: &mut Bits, table: &mut T) -> Outcome
+    requires size { length soft.now ≡ (sizes name).values }
+    requires trellis { certificate_rows name ≢ 0 }
+    ensures { (rows : List ℕ) → InParts (read_by (reader name) rows soft.now) result message.new (T.rows_of table.new) }
+{
+    match name {
+        FieldName::Sync => Bsch::decode3_into(soft, message, table),
+        FieldName::Half => Half::decode3_into(soft, message, table),
+        FieldName::Hu => Hu::decode3_into(soft, message, table),
+        FieldName::Full => Full::decode3_into(soft, message, table),
+        FieldName::D48 => Data48::decode3_into(soft, message, table),
+        FieldName::D24 => Data24::decode3_into(soft, message, table),
+        FieldName::Whole => decode_whole_into(soft, message, table),
+        FieldName::Single => decode_half_into(soft, message, table),
+        FieldName::Aach | FieldName::D72 => unreachable!(),
+    }
+}
+
+/// What is read of the values of a field without a trellis: the message over the bits that are there, and the mark and the
+/// metric as the answer.
+fn read_uncoded(name: FieldName, code: &AccessCode, soft: &Soft, message: &mut Bits) -> Outcome
+    requires size { length soft.now ≡ (sizes name).values }
+    requires no_trellis { certificate_rows name ≡ 0 }
+    ensures { InParts (read_by (reader name) code.now.0 soft.now) result message.new [] }
+{
+    match name {
+        FieldName::Aach => Aach::decode2_into(code, soft, message),
+        FieldName::D72 => Raw72::decode1_into(soft, message),
+        FieldName::Sync
+        | FieldName::Half
+        | FieldName::Hu
+        | FieldName::Full
+        | FieldName::D48
+        | FieldName::D24
+        | FieldName::Whole
+        | FieldName::Single => unreachable!(),
+    }
+}
+
 /// What is read of the values of a field, written over a reading that is there, whose potentials serve again.
 pub fn read(name: FieldName, code: &AccessCode, soft: &Soft, reading: &mut Reading)
     requires size { length soft.now ≡ (sizes name).values }
     ensures { reading.new ≡ read_by (reader name) code.now.0 soft.now }
 {
-    match name {
-        FieldName::Aach => Aach::decode2_into(code, soft, reading),
-        FieldName::Sync => Bsch::decode3_into(soft, reading),
-        FieldName::Half => Half::decode3_into(soft, reading),
-        FieldName::Hu => Hu::decode3_into(soft, reading),
-        FieldName::Full => Full::decode3_into(soft, reading),
-        FieldName::D72 => Raw72::decode1_into(soft, reading),
-        FieldName::D48 => Data48::decode3_into(soft, reading),
-        FieldName::D24 => Data24::decode3_into(soft, reading),
-        FieldName::Whole => decode_whole_into(soft, reading),
-        FieldName::Single => decode_half_into(soft, reading),
+    let outcome = if name.certificate_rows() == 0 {
+        drop_potentials(&mut reading.potentials);
+        read_uncoded(name, code, soft, &mut reading.bits)
+    } else {
+        let potentials = reading.potentials.get_or_insert_with(Potentials::new);
+        read_coded(name, soft, &mut reading.bits, potentials)
+    };
+    reading.mark = outcome.mark;
+    reading.metric = outcome.metric;
+}
+
+/// The same in parts: a field without a trellis leaves no rows in the table.
+fn read_parts<T: Table>(
+    name: FieldName,
+    code: &AccessCode,
+    soft: &Soft,
+    message: &mut Bits,
+    table: &mut T,
+) -> Outcome
+    requires size { length soft.now ≡ (sizes name).values }
+    ensures { InParts (read_by (reader name) code.now.0 soft.now) result message.new (T.rows_of table.new) }
+{
+    if name.certificate_rows() == 0 {
+        table.begin(0);
+        read_uncoded(name, code, soft, message)
+    } else {
+        read_coded(name, soft, message, table)
     }
 }
 
@@ -221,19 +279,34 @@ fn read_block(name: FieldName, code: &AccessCode, block: &Option<Soft>, reading:
     }
 }
 
-/// What is read of a field of a front, by its values, written over a field that is there, whose potentials serve again:
-/// the first-least message with its metric, its mark and its certificate; where it has no values, not yet. The code is
-/// that of the access field. So the fields of `hear_turn` can be read one by one, where there is no room for all of them.
+/// What is read of a field of a front, by its values, in parts, each over what is there: the first-least message, its
+/// certificate into a table, which has no rows where there is none, and its mark and its metric as the answer; where the
+/// field has no values, not yet. The code is that of the access field. So the fields of `hear_turn` can be read one by one,
+/// with no more room than one message, and certificates where they are wanted.
 #[tactic(auto, unfolding(crate::specs::Readers::read_field))]
-pub fn read_heard(code: &AccessCode, heard: &FrontField, field: &mut Field)
+pub fn read_heard<T: Table>(
+    code: &AccessCode,
+    heard: &FrontField,
+    message: &mut Bits,
+    table: &mut T,
+) -> Outcome
     requires { IsFrontField heard.now }
-    ensures value { field.new ≡ read_field code.now.0 heard.now }
-    ensures formed { IsField field.new }
-    ensures small { IsBounded (nat_abs SOFT_MAX) field.new }
+    ensures parts { InParts (read_field code.now.0 heard.now).reading result message.new (T.rows_of table.new) }
+    ensures formed { IsField (read_field code.now.0 heard.now) }
+    ensures small { IsBounded (nat_abs SOFT_MAX) (read_field code.now.0 heard.now) }
 {
     block_is_soft(&heard.soft);
-    field.name = heard.name;
-    read_block(heard.name, code, &heard.soft, &mut field.reading);
+    match &heard.soft {
+        Some(values) => read_parts(heard.name, code, values, message, table),
+        None => {
+            *message = Bits::zeros(heard.name.sizes().bits);
+            table.begin(0);
+            Outcome {
+                mark: Mark::NotYet,
+                metric: 0,
+            }
+        }
+    }
 }
 
 /// Whether the values of a field come over several slots: those of protected data.
@@ -387,14 +460,8 @@ fn half_reads_good(values: &Soft) -> bool
     requires { length values.now ≡ 216 }
     ensures { result ≡ is_good (coded_reading half values.now).mark }
 {
-    let mut reading = Reading {
-        mark: Mark::Unchecked,
-        metric: 0,
-        bits: Bits::new(),
-        potentials: None,
-    };
-    Half::decode3_into(values, &mut reading);
-    is_good(reading.mark)
+    let outcome = Half::decode3_into(values, &mut Bits::new(), &mut Potentials::new());
+    is_good(outcome.mark)
 }
 
 /// Whether there are values of a half slot channel, and they are read as Good.

@@ -43,21 +43,6 @@ class TetraSender(ctypes.Structure):
     _fields_ = [("settings", TetraSettings), ("turn", c_uint32), ("lanes", TetraKeptBlocks * 4)]
 
 
-class TetraReceiver(ctypes.Structure):
-    _fields_ = [("settings", TetraSettings), ("turn", c_uint32), ("lanes", TetraKeptWords * 4)]
-
-
-class TetraBlocks(ctypes.Structure):
-    _fields_ = [
-        ("letter", c_uint8),
-        ("aach", c_uint16),
-        ("sends_first", c_uint8),
-        ("sends_second", c_uint8),
-        ("bits", c_uint16 * 3),
-        ("fields", c_uint8 * 432 * 3),
-    ]
-
-
 Row = c_uint32 * 16
 
 
@@ -70,6 +55,21 @@ class TetraField(ctypes.Structure):
         ("rows", c_uint16),
         ("message", c_uint8 * 432),
         ("potentials", Row * 293),
+    ]
+
+
+class TetraReceiver(ctypes.Structure):
+    _fields_ = [("settings", TetraSettings), ("turn", c_uint32), ("lanes", TetraKeptWords * 4), ("work", TetraField)]
+
+
+class TetraBlocks(ctypes.Structure):
+    _fields_ = [
+        ("letter", c_uint8),
+        ("aach", c_uint16),
+        ("sends_first", c_uint8),
+        ("sends_second", c_uint8),
+        ("bits", c_uint16 * 3),
+        ("fields", c_uint8 * 432 * 3),
     ]
 
 

@@ -139,7 +139,22 @@ struct tetra_kept_blocks { uint8_t count, oldest; struct tetra_kept_block blocks
 struct tetra_kept_word { int8_t values[TETRA_BITS]; };
 struct tetra_kept_words { uint8_t count, oldest; struct tetra_kept_word words[8]; };
 
-/* A sender and a receiver: their settings, the number of the slot whose turn it is, and what is kept of timeslots 1 to 4. */
+/* A row of a certificate: the potentials of states 0 to 15. */
+struct tetra_row { uint32_t states[16]; };
+
+/* What is read of a field. Bytes of `message` behind `bits` and rows of `potentials` behind `rows` say nothing. */
+struct tetra_field {
+    uint32_t metric;                          /* that of the message; of speech that of its coded part */
+    uint8_t name;                             /* enum tetra_field_name */
+    uint8_t mark;                             /* enum tetra_mark */
+    uint16_t bits;                            /* the length of the message, parity included */
+    uint16_t rows;                            /* the rows of the certificate; 0 where there is none */
+    uint8_t message[TETRA_BITS];              /* its bits */
+    struct tetra_row potentials[TETRA_ROWS];  /* the certificate */
+};
+
+/* A sender and a receiver: their settings, the number of the slot whose turn it is, and what is kept of timeslots 1 to 4.
+ * In `work` tetra_receiver_record reads the fields of a record; it need not be set, and nothing that stands in it is looked at. */
 struct tetra_sender {
     struct tetra_settings settings;
     uint32_t turn;
@@ -149,6 +164,7 @@ struct tetra_receiver {
     struct tetra_settings settings;
     uint32_t turn;
     struct tetra_kept_words lanes[4];
+    struct tetra_field work;
 };
 
 /* The blocks of a slot. Which letters a slot may carry, and the bits of each field:
@@ -172,20 +188,6 @@ struct tetra_blocks {
     uint8_t sends_second;          /* likewise of the second subslot */
     uint16_t bits[3];              /* the lengths of the fields */
     uint8_t fields[3][TETRA_BITS]; /* their bits */
-};
-
-/* A row of a certificate: the potentials of states 0 to 15. */
-struct tetra_row { uint32_t states[16]; };
-
-/* What is read of a field. Bytes of `message` behind `bits` and rows of `potentials` behind `rows` say nothing. */
-struct tetra_field {
-    uint32_t metric;                          /* that of the message; of speech that of its coded part */
-    uint8_t name;                             /* enum tetra_field_name */
-    uint8_t mark;                             /* enum tetra_mark */
-    uint16_t bits;                            /* the length of the message, parity included */
-    uint16_t rows;                            /* the rows of the certificate; 0 where there is none */
-    uint8_t message[TETRA_BITS];              /* its bits */
-    struct tetra_row potentials[TETRA_ROWS];  /* the certificate */
 };
 
 /* What is read of a slot. On the downlink the access field is first; of 'P', which is read where 'P' or 'Q' was sent, both
@@ -224,7 +226,7 @@ TETRA_SIZE(tetra_kept_blocks, 3458);
 TETRA_SIZE(tetra_kept_word, 432);
 TETRA_SIZE(tetra_kept_words, 3458);
 TETRA_SIZE(tetra_sender, 13852);
-TETRA_SIZE(tetra_receiver, 13852);
+TETRA_SIZE(tetra_receiver, 33048);
 TETRA_SIZE(tetra_blocks, 1308);
 TETRA_SIZE(tetra_row, 64);
 TETRA_SIZE(tetra_field, 19196);

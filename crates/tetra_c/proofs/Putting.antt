@@ -1,8 +1,10 @@
 -- Fields are written one by one.
-use Rattle.std.proofs.Common.{◌≢◌, ◌<◌, ◌+◌, ℕ, List, length, get_or, set, sym, subst, arith, below_more}
+use Prim.Native.Nat.{zero, suc}
+use Rattle.std.proofs.Common.{◌≡◌, ◌≢◌, ◌<◌, ◌+◌, ℕ, List, [], ◌∷◌, Option, None, Some, length, take, get_or, set, ap, refl, sym, ◌∙◌, subst, arith, below_more}
 use Rattle.std.proofs.lemmas.List.{get_or-set_same, get_or-set_other}
+use Rattle.tetra_bits.specs.Parts.{AreRows}
 use Rattle.tetra_settings.specs.declared.readings.Field.{Field}
-use Rattle.tetra_c.specs.Readings.{IsPut}
+use Rattle.tetra_c.specs.Readings.{HasTable, IsPut}
 use Rattle.tetra_c.specs.declared.readings.TetraField.{TetraField}
 
 -- the field at a place is written
@@ -19,3 +21,21 @@ put_more fields places i new within here before =
     let other : k ≢ i = λ e. absurd (omega (arith, e)) in
     subst (IsPut (get_or fields k field)) (sym (get_or-set_other places i k new place other)) (before k below field place))
     (λ field place. subst (IsPut (get_or fields i field)) (sym (get_or-set_same places i new place within)) (here field))
+
+front_again : (n : ℕ) (xs : List (List ℕ)) → take (length (take n xs)) xs ≡ take n xs
+front_again zero xs = refl
+front_again (suc n) [] = refl
+front_again (suc n) (x ∷ xs) = ap (λ more. x ∷ more) (front_again n xs)
+
+-- a certificate is written, once the rows of its table are counted
+pub table_put : (potentials : Option (List (List ℕ))) (n rows : ℕ) (table : List (List ℕ)) → rows ≡ length (take n table)
+    → AreRows potentials (take n table) → HasTable potentials rows table
+table_put None n rows table is parts = is ∙ ap length parts
+table_put (Some written) n rows table is parts = (is ∙ ap length parts, ap (λ k. take k table) is ∙ front_again n table ∙ parts)
+
+-- a place in a front is below its size
+pub below_front : {X : Type 0} (n t : ℕ) (xs : List X) → t < length (take n xs) → t < n
+below_front zero t xs h = h
+below_front (suc n) t [] h = absurd (omega (arith, h))
+below_front (suc n) zero (x ∷ xs) h = omega arith
+below_front (suc n) (suc t) (x ∷ xs) h = let below : t < n = below_front n t xs (omega (arith, h)) in omega (arith, below)

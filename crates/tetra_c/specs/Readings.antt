@@ -31,6 +31,10 @@ name_number D24 = 7
 name_number Whole = 8
 name_number Single = 9
 
+-- the rows of a field as C has it
+abbrev pub rows_of : TetraField → List (List ℕ)
+rows_of field = take field.rows field.potentials
+
 -- a certificate is written, where there is one
 abbrev pub HasTable : Option (List (List ℕ)) → ℕ → List (List ℕ) → Type 0
 HasTable None rows potentials = rows ≡ 0

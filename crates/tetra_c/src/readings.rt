@@ -1,15 +1,14 @@
 // What is read of a slot, as C has it.
 ghost use Rattle.std.specs.Prelude.{◌≡◌, take, length};
-ghost use Rattle.tetra_session.specs.Fronts.{IsFront};
-ghost use Rattle.tetra_session.specs.Readers.{read_front};
-ghost use Rattle.tetra_settings.specs.Readings.{IsField};
+ghost use Rattle.tetra_session.specs.Fronts.{IsFront, IsFrontField};
+ghost use Rattle.tetra_session.specs.Readers.{read_field, read_front};
 ghost use Rattle.tetra_c.specs.Bytes.{bytes_of};
 ghost use Rattle.tetra_c.specs.Readings.{mark_number, name_number, IsPut, ArePut};
 
-use tetra_bits::{Bits, Mark, Potentials};
+use tetra_bits::{Bits, Mark, Table};
 use tetra_rm::AccessCode;
-use tetra_session::{Front, read_heard};
-use tetra_settings::{Field, FieldName};
+use tetra_session::{Front, FrontField, read_heard};
+use tetra_settings::FieldName;
 
 /// What is read of a field: the number of its name (0 AACH, 1 BSCH, 2 a half slot, 3 SCH/HU, 4 SCH/F, 5 TCH/7.2, 6 TCH/4.8,
 /// 7 TCH/2.4, 8 speech of a whole slot, 9 speech of half a slot) and of its mark (0 good, 1 bad, 2 unchecked, 3 not yet),
@@ -75,32 +74,48 @@ fn put_message(bits: &Bits, bytes: &mut [u8; 432])
     }
 }
 
-/// Writes a table at the front of a list of rows.
-fn put_table(table: &Potentials, rows: &mut [[u32; 16]; 293])
-    ensures { take (length table.now) rows.new ≡ table.now }
+/// The same row, which has 16 entries.
+fn whole_row(row: &[u32; 16]) -> &[u32; 16]
+    ensures row { result.now ≡ row.now }
+    ensures sixteen { length row.now ≡ 16 }
 {
-    for t in 0..table.rows() {
-        rows[t] = *table.row(t);
+    row
+}
+
+impl Table for TetraField {
+    ghost use Rattle.tetra_c.specs.Readings.{rows_of};
+
+    ghost rows_of = { rows_of };
+
+    fn begin(&mut self, rows: usize) {
+        self.rows = rows as u16;
+    }
+
+    fn count(&self) -> usize {
+        usize::from(self.rows).min(293)
+    }
+
+    fn row_at(&self, t: usize) -> &[u32; 16] {
+        whole_row(&self.potentials[t])
+    }
+
+    fn put_row(&mut self, t: usize, row: [u32; 16]) {
+        self.potentials[t] = row;
     }
 }
 
-/// Writes what is read of a field.
-fn put_field(field: &Field, out: &mut TetraField)
-    requires { IsField field.now }
-    ensures { IsPut field.now out.new }
+/// Reads a field of a front, and writes what is read of it. `message` is filled on the way.
+fn put_field(code: &AccessCode, heard: &FrontField, message: &mut Bits, out: &mut TetraField)
+    requires { IsFrontField heard.now }
+    ensures { IsPut (read_field code.now.0 heard.now) out.new }
 {
-    out.name = name_number(field.name);
-    out.mark = mark_number(field.reading.mark);
-    out.metric = field.reading.metric;
-    out.bits = field.reading.bits.len() as u16;
-    put_message(&field.reading.bits, &mut out.message);
-    match &field.reading.potentials {
-        Some(table) => {
-            out.rows = table.rows() as u16;
-            put_table(table, &mut out.potentials);
-        }
-        None => out.rows = 0,
-    }
+    let outcome = read_heard(code, heard, message, out);
+    out.name = name_number(heard.name);
+    out.mark = mark_number(outcome.mark);
+    out.metric = outcome.metric;
+    out.bits = message.len() as u16;
+    out.rows = out.count() as u16;
+    put_message(message, &mut out.message);
 }
 
 /// Writes what is read of a slot by its front. One field is read at a time.
@@ -111,9 +126,8 @@ pub fn put_front(code: &AccessCode, front: &Front, out: &mut TetraReading)
 {
     out.letter = front.letter;
     out.count = front.fields.len() as u8;
-    let mut field = Field::default();
+    let mut message = Bits::new();
     for i in 0..front.fields.len() {
-        read_heard(code, &front.fields[i], &mut field);
-        put_field(&field, &mut out.fields[i]);
+        put_field(code, &front.fields[i], &mut message, &mut out.fields[i]);
     }
 }

@@ -14,7 +14,7 @@ ghost use Rattle.tetra_c.specs.Values.{soft_values};
 
 use crate::fault::Fault;
 use crate::kept_words::TetraKeptWords;
-use crate::readings::{TetraReading, put_front};
+use crate::readings::{TetraField, TetraReading, put_front};
 use crate::rings::is_ring;
 use crate::settings::{TetraSettings, checked_settings};
 use crate::soft::slot_values;
@@ -24,13 +24,15 @@ use tetra_scramble::key;
 use tetra_session::{Front, Work, depth, hear_turn};
 use tetra_settings::{Settings, clock};
 
-/// A receiver: its settings, how many slots it has read, and what is kept of timeslots 1 to 4. The caller keeps it.
+/// A receiver: its settings, how many slots it has read, and what is kept of timeslots 1 to 4. The caller keeps it. `work`
+/// is room in which the fields of a record are read, and nothing that stands in it is looked at.
 #[repr(C)]
 #[derive(Drop)]
 pub struct TetraReceiver {
     pub settings: TetraSettings,
     pub turn: u32,
     pub lanes: [TetraKeptWords; 4],
+    pub work: TetraField,
 }
 
 /// Begins a receiver. Answers 0, or the number of a fault of the settings, and then the receiver is as it was: -3 for the

@@ -35,6 +35,7 @@ fn no_receiver() -> TetraReceiver {
             oldest: 9,
             words: [TetraKeptWord { values: [9; 432] }; 8],
         }; 4],
+        work: no_field(),
     }
 }
 

@@ -14,15 +14,16 @@ ghost use Rattle.tetra_c.specs.Records.{form_of, audit_for, claim_fault};
 ghost use Rattle.tetra_c.specs.Values.{soft_values};
 
 use crate::fault::Fault;
+use crate::readings::TetraField;
 use crate::receiver::{TetraReceiver, empty_front, hear, hear_next, lane_at, ready};
 use crate::verdict::{TetraVerdict, verdict_for};
 use tetra_audit::{FieldWhy, SlotVerdict, audit_slot_with, claim_len};
-use tetra_bits::Potentials;
+use tetra_bits::{Bits, Potentials};
 use tetra_cert::Verdict;
-use tetra_records::write_field;
+use tetra_records::write_parts;
 use tetra_rm::AccessCode;
 use tetra_session::{Front, read_heard};
-use tetra_settings::{Field, Form};
+use tetra_settings::Form;
 
 /// The form of a record: with certificates where the number is not 0.
 fn form_of(certificates: u8) -> Form
@@ -35,18 +36,25 @@ fn form_of(certificates: u8) -> Form
     }
 }
 
-/// Writes the reading record of a front at the front of the bytes, and answers how many it has. One field is read at a time.
+/// Writes the reading record of a front at the front of the bytes, and answers how many it has. One field is read at a time,
+/// in `work`.
 #[inline(never)]
-fn put_record(code: &AccessCode, front: &Front, form: Form, bytes: &mut [u8; 18743]) -> u32
+fn put_record(
+    code: &AccessCode,
+    front: &Front,
+    form: Form,
+    work: &mut TetraField,
+    bytes: &mut [u8; 18743],
+) -> u32
     requires formed { IsFront front.now }
     ensures { take result bytes.new ≡ reading_spelling form (read_front code.now.0 front.now) }
 {
     bytes[0] = front.letter;
     let mut end = 1usize;
-    let mut field = Field::default();
+    let mut message = Bits::new();
     for heard in front.fields.as_slice() {
-        read_heard(code, heard, &mut field);
-        end = write_field(&field, form, bytes, end);
+        let outcome = read_heard(code, heard, &mut message, work);
+        end = write_parts(outcome, &message, work, form, bytes, end);
     }
     end as u32
 }
@@ -84,6 +92,7 @@ pub extern "C" fn tetra_receiver_record(
                 &AccessCode::of(&settings.rows),
                 &front,
                 form_of(certificates),
+                &mut receiver.work,
                 bytes,
             );
             0

@@ -1,4 +1,4 @@
-use Rattle.std.proofs.Common.{rules, ◌≡◌, ◌<◌, length, map, get_or, length-set, subst, sym, ◌∙◌}
+use Rattle.std.proofs.Common.{rules, ◌≡◌, ◌<◌, length, map, get_or, length-set, refl, subst, sym, ◌∙◌}
 use Rattle.std.proofs.lemmas.List.{length-map}
 use Rattle.std.proofs.lemmas.List.Elements.{All-get_or}
 use Rattle.tetra_session.specs.Fronts.{IsFrontField}
@@ -8,8 +8,8 @@ use Rattle.tetra_c.proofs.Fronts.{read_at}
 use Rattle.tetra_c.proofs.Putting.{put_more}
 use Rattle.tetra_c.proofs.readings.put_front.Goals as goal
 
-pub read_heard-requires : goal.read_heard-requires
-read_heard-requires c =
+pub put_field-requires : goal.put_field-requires
+put_field-requires c =
     let items = c.args.front.now.fields.items in
     let i = c.loop-i.i in
     let is : c.index-deref-i.result ≡ get_or items i c.index-deref-i.result = rw c.deref.ensures.0 at c.index-deref-i.is in
@@ -30,7 +30,7 @@ loop-i-preserved c =
       size = search (rules, length-set);
       fields = put_more (map (read_field rows) items) c.loop-i.out.fields i c.put_field.new.out within
           (λ field. subst (λ f. IsPut f c.put_field.new.out)
-          (read_at rows items i c.index-deref-i.result c.read_heard.new.field field is read c.read_heard.ensures.value) c.put_field.ensures)
+          (read_at rows items i c.index-deref-i.result (read_field rows c.index-deref-i.result) field is read refl) c.put_field.ensures)
           c.loop-i.invariant.fields;
     }
 

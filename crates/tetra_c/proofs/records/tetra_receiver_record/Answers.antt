@@ -17,7 +17,9 @@ returns-in-Ok-clause-bytes c = λ done settings history h.
     ∙ ap (λ form. reading_spelling form (slot_reading settings history soft)) c.form_of.ensures
 
 pub returns-in-Ok-clause-stands : goal.returns-in-Ok-clause-stands
-returns-in-Ok-clause-stands c = λ done. c.in-Ok.ensures.stands refl
+returns-in-Ok-clause-stands c = λ done settings history h.
+    let is = c.in-Ok.ensures.stands refl settings history h in
+    record { same = is.same; turn = is.turn; timeslots = is.timeslots }
 
 pub returns-in-Err-clause-own : goal.returns-in-Err-clause-own
 returns-in-Err-clause-own c = λ settings history h kept.

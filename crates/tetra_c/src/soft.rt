@@ -36,8 +36,9 @@ pub fn field_values(values: &[i8]) -> Soft
     ensures size { length result ≡ length values.now }
 {
     let mut soft = Soft::new();
-    for value in values {
-        soft.push(clamped(*value));
+    soft.resize(values.len());
+    for k in 0..values.len() {
+        soft.set(k, clamped(values[k]));
     }
     soft
 }

@@ -1,12 +1,13 @@
-/* What the calls cost over a file of cases: `costs time FILE` prints microseconds of processor time per call for each row, the
- * best of several passes over its slots, and `costs stack FILE` the most bytes of stack that each call takes over all slots. */
+/* What the calls cost over a file of cases: `costs time FILE REPEATS` prints microseconds of processor time per call for each
+ * row, the best of several samples, each of which goes over its slots REPEATS times (1 to 1000), and `costs stack FILE` the most
+ * bytes of stack that each call takes over all slots. */
 #define _DEFAULT_SOURCE
 #include "cases.h"
 #include <pthread.h>
 #include <sys/mman.h>
 #include <time.h>
 
-enum { MOST_SLOTS = 4320, PASSES = 5, REPEATS = 4, ROOM = 1 << 21, PAINT = 0xAA };
+enum { MOST_SLOTS = 4320, PASSES = 5, MOST_REPEATS = 1000, ROOM = 1 << 21, PAINT = 0xAA };
 
 static struct slot_case slots[MOST_SLOTS];
 static struct check_case checked;
@@ -82,14 +83,14 @@ static double now(void)
     return (double)time.tv_sec * 1e6 + (double)time.tv_nsec * 1e-3;
 }
 
-static double microseconds(void (*call)(const struct slot_case *))
+static double microseconds(void (*call)(const struct slot_case *), long repeats)
 {
     double best = 1e12;
     for (int turn = 0; turn < PASSES; turn++) {
         double begun = now(), spent;
-        for (int repeat = 0; repeat < REPEATS; repeat++)
+        for (long repeat = 0; repeat < repeats; repeat++)
             pass(call);
-        spent = (now() - begun) / REPEATS / count;
+        spent = (now() - begun) / (double)repeats / count;
         best = spent < best ? spent : best;
     }
     return best;
@@ -125,11 +126,29 @@ static size_t taken(void (*call)(const struct slot_case *))
     return ROOM - left;
 }
 
+static int usage(void)
+{
+    fprintf(stderr, "usage: costs time FILE REPEATS (from 1 to %d), or costs stack FILE\n", MOST_REPEATS);
+    return 2;
+}
+
+/* The number that a word is, and 0 where it is none from 1 to 1000. */
+static long repeats_of(const char *word)
+{
+    char *end;
+    long repeats = strtol(word, &end, 10);
+    return end != word && *end == '\0' && repeats >= 1 && repeats <= MOST_REPEATS ? repeats : 0;
+}
+
 int main(int words, char **word)
 {
-    int is_time = words == 3 && strcmp(word[1], "time") == 0;
-    unsigned rows = words == 3 ? cases_open(word[2]) : 0;
+    int is_time = words == 4 && strcmp(word[1], "time") == 0, is_stack = words == 3 && strcmp(word[1], "stack") == 0;
+    long repeats = is_time ? repeats_of(word[3]) : 0;
+    unsigned rows;
     size_t most[CALLS] = {0};
+    if (!is_stack && repeats == 0)
+        return usage();
+    rows = cases_open(word[2]);
     for (unsigned row = 0; row < rows; row++) {
         size_t none = taken(NULL);
         next_row();
@@ -137,10 +156,10 @@ int main(int words, char **word)
             size_t bytes = is_time ? 0 : taken(calls[k].call) - none;
             most[k] = bytes > most[k] ? bytes : most[k];
             if (is_time)
-                printf("%u\t%s\t%.3f\n", row, calls[k].name, microseconds(calls[k].call));
+                printf("%u\t%s\t%.3f\n", row, calls[k].name, microseconds(calls[k].call, repeats));
         }
     }
-    for (int k = 0; !is_time && k < CALLS; k++)
+    for (int k = 0; is_stack && k < CALLS; k++)
         printf("%s\t%lu\n", calls[k].name, (unsigned long)most[k]);
     return sum != 0 || rows == 0;
 }

@@ -4,8 +4,8 @@ use Rattle.std.proofs.Common.{◌≡◌, ℕ, ◌+◌, ◌-◌, ◌*◌, ◌/◌
 use Rattle.std.proofs.Math.Bool.{beq}
 use Rattle.std.proofs.lemmas.Bool.{cases_lt, and_parts}
 use Rattle.std.proofs.lemmas.Nat.{shr-shr}
-use Rattle.std.proofs.lemmas.Nat.Bits.{bit_at_xor, shr_and_one}
-use Rattle.std.specs.Int.Bits.{bit_and, bit_xor}
+use Rattle.std.proofs.lemmas.Nat.Bits.{bit_at_xor}
+use Rattle.std.specs.Int.Bits.{bit_xor}
 use Rattle.tetra_bits.specs.Order.{bit_at}
 use Rattle.tetra_bits.specs.Sums.{add2, bit_number}
 use Rattle.tetra_bits.specs.Digits.{digit, digits}
@@ -315,12 +315,36 @@ first_register number i h =
     let whole : digits 32 (number * 4 + 3) ≡ digits 30 number ++ digits 2 3 = digits-cat 30 2 number 3 (omega arith) in
     sym (get_or-numbered (digit 32 (number * 4 + 3)) 32 i false h) ∙ ap (λ bits. bit_at bits i) whole
 
+-- what is left at the top of sixteen bits of a number that is moved up
+abbrev lane : ℕ → ℕ → ℕ
+lane number up = number % 65536 * up % 65536 / 32768
+
+-- moved up by all that is behind it, a bit is alone there
+pub lowest : (number j : ℕ) → j < 16 → get_or (lane number 32768 ∷ lane number 16384 ∷ lane number 8192 ∷ lane number 4096 ∷ lane number 2048 ∷ lane number 1024 ∷ lane number 512 ∷ lane number 256 ∷ lane number 128 ∷ lane number 64 ∷ lane number 32 ∷ lane number 16 ∷ lane number 8 ∷ lane number 4 ∷ lane number 2 ∷ lane number 1 ∷ []) j 0 ≡ number / 2 ^ j % 2
+lowest number zero h = omega arith
+lowest number (suc zero) h = omega arith
+lowest number (suc (suc zero)) h = omega arith
+lowest number (suc (suc (suc zero))) h = omega arith
+lowest number (suc (suc (suc (suc zero)))) h = omega arith
+lowest number (suc (suc (suc (suc (suc zero))))) h = omega arith
+lowest number (suc (suc (suc (suc (suc (suc zero)))))) h = omega arith
+lowest number (suc (suc (suc (suc (suc (suc (suc zero))))))) h = omega arith
+lowest number (suc (suc (suc (suc (suc (suc (suc (suc zero)))))))) h = omega arith
+lowest number (suc (suc (suc (suc (suc (suc (suc (suc (suc zero))))))))) h = omega arith
+lowest number (suc (suc (suc (suc (suc (suc (suc (suc (suc (suc zero)))))))))) h = omega arith
+lowest number (suc (suc (suc (suc (suc (suc (suc (suc (suc (suc (suc zero))))))))))) h = omega arith
+lowest number (suc (suc (suc (suc (suc (suc (suc (suc (suc (suc (suc (suc zero)))))))))))) h = omega arith
+lowest number (suc (suc (suc (suc (suc (suc (suc (suc (suc (suc (suc (suc (suc zero))))))))))))) h = omega arith
+lowest number (suc (suc (suc (suc (suc (suc (suc (suc (suc (suc (suc (suc (suc (suc zero)))))))))))))) h = omega arith
+lowest number (suc (suc (suc (suc (suc (suc (suc (suc (suc (suc (suc (suc (suc (suc (suc zero))))))))))))))) h = omega arith
+lowest number (suc (suc (suc (suc (suc (suc (suc (suc (suc (suc (suc (suc (suc (suc (suc (suc j)))))))))))))))) h = absurd (omega (arith, h))
+
 -- a bit as the code computes it
-pub written_bit : (number j : ℕ) → j < 16 → nat_eq (bit_and (number / 2 ^ j) 1) 1 ≡ digit 32 number (32 - j)
+pub written_bit : (number j : ℕ) → j < 16 → nat_eq (number / 2 ^ j % 2) 1 ≡ digit 32 number (32 - j)
 unfolding digit
 written_bit number j h =
     let place : 32 - (32 - j) ≡ j = omega arith in
-    rw place (ap (λ n. nat_eq n 1) (shr_and_one number j))
+    rw place refl
 
 -- the halves of the register are the bits that have come
 pub low_half : (e : List Bool) (n register : ℕ) → HoldsLast e (n + 32) register → AreNext e n register

@@ -1,5 +1,5 @@
 // The key by a register.
-ghost use Rattle.std.specs.Prelude.{◌≡◌, ℕ, ◌<◌, ◌≤◌, ◌^◌, ◌+◌, ◌%◌, Bool, List, [], length, slice_index, slice_index_or};
+ghost use Rattle.std.specs.Prelude.{◌≡◌, ℕ, ◌<◌, ◌≤◌, ◌^◌, ◌+◌, ◌/◌, ◌%◌, Bool, List, [], length, slice_index, slice_index_or};
 ghost use Rattle.tetra_bits.specs.Digits.{digits};
 ghost use Rattle.tetra_scramble.specs.Colour.{IsColour, colour_bits};
 ghost use Rattle.tetra_scramble.specs.Key.{IsKey, key_from, key_of, zero_key_bits, no_colour};
@@ -7,6 +7,7 @@ ghost use Rattle.tetra_scramble.specs.Register.{HoldsLast, IsWritten, AreNext};
 
 use crate::colour::Colour;
 use crate::keys::Key;
+use std::simd::prelude::*;
 
 /// The key of a colour in range.
 pub fn key(colour: &Colour) -> Key
@@ -110,13 +111,27 @@ fn added_by(row: usize, digits: u32) -> u32
     NEXT[row][(digits % 16) as usize]
 }
 
+/// The powers of two that bring the lowest sixteen bits of a number, the lowest first, to the top of sixteen bits.
+const UP: [u16; 16] = [
+    32768, 16384, 8192, 4096, 2048, 1024, 512, 256, 128, 64, 32, 16, 8, 4, 2, 1,
+];
+
+/// The lowest sixteen bits of a number, the lowest first, side by side.
+fn lowest_16(number: u32) -> [u16; 16]
+    ensures { (j : ℕ) → j < 16 → slice_index result j ≡ number / 2 ^ j % 2 }
+{
+    let same = u16x16::splat((number % 65_536) as u16);
+    ((same * u16x16::from_array(UP)) >> 15).to_array()
+}
+
 /// Writes the lowest sixteen bits of `next`, the lowest first, behind the first `from` bits of a key.
 fn write_16(bits: &mut [bool; 432], from: usize, next: u32)
     requires room { from + 16 ≤ 432 }
     ensures key { (e : List Bool) → IsWritten e from bits.old → AreNext e from next → IsWritten e (from + 16) bits.new }
     ensures size { length bits.new ≡ 432 }
 {
+    let lowest = lowest_16(next);
     for j in 0..16usize {
-        bits[from + j] = next >> j & 1 == 1;
+        bits[from + j] = lowest[j] == 1;
     }
 }

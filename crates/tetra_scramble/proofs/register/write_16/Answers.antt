@@ -1,4 +1,4 @@
-use Rattle.std.proofs.Common.{◌+◌, ◌<◌, length, false, arith, refl, ◌∙◌}
+use Rattle.std.proofs.Common.{◌+◌, ◌<◌, length, nat_eq, false, arith, refl, ap, ◌∙◌}
 use Rattle.std.proofs.Math.ListN.{length-set}
 use Rattle.tetra_bits.specs.lemmas.InPlace.{begins_set}
 use Rattle.tetra_scramble.specs.Key.{key_bit}
@@ -14,5 +14,5 @@ loop-j-preserved c =
       size = length-set c.loop-j.bits place _ ∙ c.loop-j.invariant.size;
       key = λ e before next k h.
           begins_set (key_bit e) false place c.loop-j.bits _ _ (c.loop-j.invariant.key e before next) refl inside
-          (written_bit c.args.next j c.loop-j-test.true ∙ next j c.loop-j-test.true) k (omega (arith, h));
+          (ap (λ n. nat_eq n 1) (c.lowest_16-lowest.ensures j c.loop-j-test.true) ∙ written_bit c.args.next j c.loop-j-test.true ∙ next j c.loop-j-test.true) k (omega (arith, h));
     }

@@ -44,11 +44,16 @@ module _ (law : FieldsHaveSizes) (dir : Dir) (key : List Bool) (block : Option (
   unfolding field_heard
   heard_names places = map-map (λ field. field.name) (field_heard dir key block soft) places
 
+  pub fields_formed : (places : List Place) → All (FitsSpot dir) places → All IsFrontField (map (field_heard dir key block soft) places)
+  fields_formed places fit =
+      All-map IsFrontField (field_heard dir key block soft) places
+      (All-weaker (FitsSpot dir) (λ place. IsFrontField (field_heard dir key block soft place)) heard_formed places fit)
+
   pub front_formed : (letter : Letter) (byte : ℕ) (places : List Place) (fields : ArrayVec FrontField) → ArePlaces dir letter places
       → byte ≡ byte_of letter → fields.items ≡ map (field_heard dir key block soft) places → IsFront (front_made byte fields)
   front_formed letter byte places fields are e f = record {
     row = rw (e, f, heard_names places) are.row;
-    fields = rw f (All-map IsFrontField (field_heard dir key block soft) places (All-weaker (FitsSpot dir) (λ place. IsFrontField (field_heard dir key block soft place)) heard_formed places are.fit));
+    fields = rw f (fields_formed places are.fit);
   }
 
 module _ (law : FieldsHaveSizes) (settings : Settings) (key : List Bool) (block : Option (List ℤ)) (soft : List ℤ) (size : length soft ≡ 510)

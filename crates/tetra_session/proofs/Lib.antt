@@ -8,6 +8,7 @@ pub mod WrittenOver
 pub mod Loads
 pub mod GatherLanes
 pub mod Answering
+pub mod Steps
 pub mod SentApart
 pub mod HeardApart
 pub mod WordSizes

@@ -1,5 +1,5 @@
 -- What the fields in front of the load tell of its place.
-use Rattle.std.proofs.Common.{◌≡◌, ◌-◌, Bool, List, ℤ, None, Some, length, map, get_or, pos, refl, ap, ◌∙◌}
+use Rattle.std.proofs.Common.{◌≡◌, ◌-◌, ◌≤◌, Bool, ℕ, List, ℤ, None, Some, length, map, get_or, pos, arith, refl, ap, ◌∙◌}
 use Rattle.std.specs.Prelude.{IfSome, MatchOption, slice_get, false}
 use Rattle.tetra_channels.specs.Channels.{half, type4_place, front_values}
 use Rattle.tetra_channels.specs.Fields.{coded_reading}
@@ -13,6 +13,7 @@ use Rattle.tetra_settings.specs.declared.slots.Letter.{Letter}
 use Rattle.tetra_settings.specs.declared.slots.Letter.TheVariants.{F, H, S, T, P, Q, C}
 use Rattle.tetra_settings.specs.declared.readings.Field.{Field}
 use Rattle.tetra_settings.specs.declared.readings.FieldName.TheVariants.{Half}
+use Rattle.tetra_session.specs.Begun.{IsLastGood}
 use Rattle.tetra_session.specs.Heard.{place_values, second_stolen, is_good, field_heard, field_of_place}
 use Rattle.tetra_session.specs.Readers.{read_field}
 use Rattle.tetra_session.specs.Spots.{place, load_place, places_before_load, spot_values}
@@ -46,6 +47,10 @@ module _ {Y : Type 0} (f : Place → Y) (fields : List Y) where
       → letter ≡ P → last ≡ f (place Half SecondBlock)
   second_last dir letter last h e p = second_in dir last h (e ∙ ap (λ l. map f (places_before_load dir l)) p)
 
+  some_there : (dir : Dir) → fields ≡ map f (places_before_load dir P) → 1 ≤ length fields
+  some_there Dl e = omega (arith, ap length e)
+  some_there Ul e = omega (arith, ap length e)
+
 -- what is read of it, and its values, tell whether it is stolen
 pub stolen_by_reading : (settings : Settings) (key : List Bool) (soft : List ℤ) (last : Field) → last ≡ field_of_place settings key None soft (place Half SecondBlock)
     → is_good last.reading.mark ≡ second_stolen settings.dir key soft
@@ -56,6 +61,18 @@ pub stolen_by_front : (dir : Dir) (key : List Bool) (soft : List ℤ) (last : Fr
     → MatchOption last.soft (good ≡ false) (λ values. good ≡ is_good (coded_reading half values).mark) → good ≡ second_stolen dir key soft
 unfolding field_heard second_stolen
 stolen_by_front dir key soft last good e h = rw e at h
+
+-- as whoever reads the fields in front of the load finds it
+pub stolen_by_last : (dir : Dir) (key : List Bool) (soft : List ℤ) (rows : List ℕ) (letter : Letter) (fields : List FrontField) (good : Bool)
+    → fields ≡ map (field_heard dir key None soft) (places_before_load dir letter) → IsLastGood rows fields good → letter ≡ P
+    → good ≡ second_stolen dir key soft
+unfolding field_heard read_field second_stolen
+stolen_by_last dir key soft rows letter fields good e last p =
+    let heard = field_heard dir key None soft in
+    let here : fields ≡ map heard (places_before_load dir P) = e ∙ ap (λ l. map heard (places_before_load dir l)) p in
+    let half_place = place Half SecondBlock in
+    last (some_there heard fields dir here) (heard half_place)
+    ∙ ap (λ (field : FrontField). is_good (read_field rows field).reading.mark) (second_at heard fields dir (heard half_place) here)
 
 -- it has 216 values
 half_long : (dir : Dir) (key : List Bool) (soft : List ℤ) → length (place_values dir key soft (place Half SecondBlock)) ≡ 216

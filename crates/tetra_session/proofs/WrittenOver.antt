@@ -42,6 +42,12 @@ module _ {Y : Type 0} (f : Place → Y) (kept : ArrayVec Y) (places : List Place
       ∙ take-append-le n (map f places) (drop (length places) kept.items) (omega arith)
       ∙ take_all n (map f places) (omega arith)
 
+  -- they are all, where no more were kept
+  pub only_items : length kept.items ≡ length places → (with_items kept first).items ≡ map f places
+  only_items size =
+      let none : drop (length places) kept.items ≡ [] = drop_all (length places) kept.items (omega (arith, size)) in
+      first_items ∙ written.first_is ∙ ap (λ rest. map f places ++ rest) none ∙ append-nil (map f places)
+
   -- and with the field of the load behind them all fields are there
   pub all_items : (g : Place → Y) (load : Option Place) (lent whole : List Y) → map f places ≡ map g places
       → length kept.items ≡ length places + from_bool (is_some load) → lent ≡ (with_items kept first).items

@@ -4,6 +4,7 @@ pub mod Spots
 pub mod Readers
 pub mod Sent
 pub mod Heard
+pub mod Begun
 pub mod Apart
 pub mod Arrives
 pub mod Data

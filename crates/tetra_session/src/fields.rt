@@ -98,8 +98,8 @@ pub fn letter_by(slot: SlotUse, train: Train) -> Letter
     }
 }
 
-/// Whether a message is good.
-fn is_good(mark: Mark) -> bool
+/// Whether a mark is that of a good message: its parity holds. This project's own.
+pub fn is_good(mark: Mark) -> bool
     ensures { result ≡ is_good mark }
 {
     match mark {
@@ -281,8 +281,8 @@ fn read_block(name: FieldName, code: &AccessCode, block: &Option<Soft>, reading:
 
 /// What is read of a field of a front, by its values, in parts, each over what is there: the first-least message, its
 /// certificate into a table, which has no rows where there is none, and its mark and its metric as the answer; where the
-/// field has no values, not yet. The code is that of the access field. So the fields of `hear_turn` can be read one by one,
-/// with no more room than one message, and certificates where they are wanted.
+/// field has no values, not yet. The code is that of the access field. So the fields of a slot that is heard can be read
+/// one by one, with no more room than one message, and certificates where they are wanted.
 #[tactic(auto, unfolding(crate::specs::Readers::read_field))]
 pub fn read_heard<T: Table>(
     code: &AccessCode,
@@ -328,7 +328,7 @@ fn is_spread(name: FieldName) -> bool
 
 /// The field at a place with its values, written over a field that is there.
 #[tactic(auto, unfolding(crate::specs::Heard::field_heard))]
-fn hear_field(
+pub fn hear_field(
     dir: Dir,
     place: Place,
     key: &Key,
@@ -490,28 +490,6 @@ pub fn load_by_front(letter: Letter, mode: Mode, fields: &[FrontField]) -> Optio
     match fields.last() {
         Some(last) => load_place(letter, mode, reads_good(&last.soft)),
         None => load_place(letter, mode, false),
-    }
-}
-
-/// The field of the load with its values, where a slot has one, written over the last of the fields that are there.
-pub fn hear_load(
-    dir: Dir,
-    load: Option<Place>,
-    key: &Key,
-    block: &Option<Soft>,
-    soft: &[i16; 510],
-    type5: &mut Soft,
-    fields: &mut [FrontField],
-)
-    requires soft { AllSoft soft.now }
-    requires place { IfSome load (FitsSpot dir) }
-    requires there { IfSome load (λ place. 1 ≤ length fields.old) }
-    ensures { MatchOption load (fields.new ≡ fields.old) (λ place. fields.new
-        ≡ slice_set fields.old (length fields.old - 1) (field_heard dir key.now block.now soft.now place)) }
-{
-    if let Some(load) = load {
-        let last = fields.len() - 1;
-        hear_field(dir, load, key, block, soft, type5, &mut fields[last]);
     }
 }
 

@@ -71,7 +71,7 @@ row_fits byte names (letter, mode, r, m, e, inl h) = let few = most letter mode 
 row_fits byte names (letter, mode, r, m, e, inr h) = let few = most letter mode r m in rw h (omega arith)
 
 -- the room of fields by their names
-pub rooms_left : List Field → ℕ
+unfoldable pub rooms_left : List Field → ℕ
 rooms_left [] = 0
 rooms_left (field ∷ fields) = room_of field.name + rooms_left fields
 
@@ -86,6 +86,12 @@ unfolding rooms_left
 rooms_from fields i field e h =
     let next : i + 1 ≡ suc i = omega arith in
     rw (drop-cons fields i field h, next) (ap (λ f. room_of f.name + rooms_left (drop (suc i) fields)) (sym e))
+
+-- the room of fields and of more fields
+pub rooms_more : (fields more : List Field) → rooms_left (fields ++ more) ≡ rooms_left fields + rooms_left more
+unfolding rooms_left
+rooms_more [] more = omega arith
+rooms_more (field ∷ fields) more = let rest = rooms_more fields more in omega (arith, rest)
 
 -- one more field is spelled
 pub spelled_more : (spell : Field → List ℕ) (start old new : List ℕ) (fields : List Field) (i : ℕ) (field : Field) → field ≡ get_or fields i field → i < length fields

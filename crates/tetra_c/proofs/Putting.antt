@@ -1,11 +1,16 @@
 -- Fields are written one by one.
 use Prim.Native.Nat.{zero, suc}
-use Rattle.std.proofs.Common.{◌≡◌, ◌≢◌, ◌<◌, ◌+◌, ℕ, List, [], ◌∷◌, Option, None, Some, length, take, get_or, set, ap, refl, sym, ◌∙◌, subst, arith, below_more}
+use Rattle.std.proofs.Common.{◌≡◌, ◌≢◌, ◌<◌, ◌+◌, ℕ, List, [], ◌∷◌, Option, None, Some, length, map, take, get_or, set, ap, refl, sym, ◌∙◌, subst, arith, below_more}
 use Rattle.std.proofs.lemmas.List.{get_or-set_same, get_or-set_other}
 use Rattle.tetra_bits.specs.Parts.{AreRows}
 use Rattle.tetra_settings.specs.declared.readings.Field.{Field}
-use Rattle.tetra_c.specs.Readings.{HasTable, IsPut}
+use Rattle.tetra_session.specs.Begun.{GoesOn}
+use Rattle.tetra_session.specs.Readers.{read_field}
+use Rattle.tetra_session.specs.declared.front.Front.{Front}
+use Rattle.tetra_session.specs.declared.front.FrontField.{FrontField}
+use Rattle.tetra_c.specs.Readings.{HasTable, IsPut, ArePutTo}
 use Rattle.tetra_c.specs.declared.readings.TetraField.{TetraField}
+use Rattle.tetra_c.proofs.Fronts.{read_before}
 
 -- the field at a place is written
 abbrev pub IsPutAt : List Field → List TetraField → ℕ → Type 0
@@ -39,3 +44,15 @@ below_front zero t xs h = h
 below_front (suc n) t [] h = absurd (omega (arith, h))
 below_front (suc n) zero (x ∷ xs) h = omega arith
 below_front (suc n) (suc t) (x ∷ xs) h = let below : t < n = below_front n t xs (omega (arith, h)) in omega (arith, below)
+
+-- fields that are written stand in a front that goes on too
+pub put_goes_on : (rows : List ℕ) (old new : Front) → GoesOn old new → (first fields : List FrontField) (out : List TetraField) (n : ℕ)
+    → first ≡ old.fields.items → fields ≡ new.fields.items → n ≡ length old.fields.items
+    → ArePutTo (map (read_field rows) first) out (length first) → ArePutTo (map (read_field rows) fields) out n
+put_goes_on rows old new on first fields out n first_is fields_are size put k below field place =
+    let before : k < length old.fields.items = omega (arith, below, size) in
+    let here : k < length first = omega (arith, before, ap length first_is) in
+    subst (λ f. IsPut f (get_or out k place))
+    (ap (λ l. get_or (map (read_field rows) l) k field) first_is ∙ read_before rows old new on k field before
+    ∙ ap (λ l. get_or (map (read_field rows) l) k field) (sym fields_are))
+    (put k here field place)

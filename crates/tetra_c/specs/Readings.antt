@@ -49,9 +49,13 @@ pub record IsPut (field : Field) (out : TetraField) : Type 0 where
   pub message : take out.bits out.message ≡ bytes_of field.reading.bits
   pub table : HasTable field.reading.potentials out.rows out.potentials
 
+-- the first n fields are written
+abbrev pub ArePutTo : List Field → List TetraField → ℕ → Type 0
+ArePutTo fields out n = (k : ℕ) → k < n → (field : Field) (place : TetraField)
+    → IsPut (slice_index_or fields k field) (slice_index_or out k place)
+
 -- what is read of a slot is written
 pub record ArePut (reading : SlotReading) (out : TetraReading) : Type 0 where
   pub letter : out.letter ≡ reading.letter
   pub count : out.count ≡ length reading.fields.items
-  pub fields : (k : ℕ) → k < length reading.fields.items → (field : Field) (place : TetraField)
-      → IsPut (slice_index_or reading.fields.items k field) (slice_index_or out.fields k place)
+  pub fields : ArePutTo reading.fields.items out.fields (length reading.fields.items)

@@ -1,13 +1,15 @@
 // What is read of a slot, as C has it.
-ghost use Rattle.std.specs.Prelude.{◌≡◌, take, length};
-ghost use Rattle.tetra_session.specs.Fronts.{IsFront, IsFrontField};
-ghost use Rattle.tetra_session.specs.Readers.{read_field, read_front};
+ghost use Rattle.std.specs.Prelude.{◌≡◌, ◌≤◌, take, length, map, All};
+ghost use Rattle.tetra_session.specs.Begun.{IsLastGood};
+ghost use Rattle.tetra_session.specs.Fronts.{IsFrontField};
+ghost use Rattle.tetra_session.specs.Heard.{is_good};
+ghost use Rattle.tetra_session.specs.Readers.{read_field};
 ghost use Rattle.tetra_c.specs.Bytes.{bytes_of};
-ghost use Rattle.tetra_c.specs.Readings.{mark_number, name_number, IsPut, ArePut};
+ghost use Rattle.tetra_c.specs.Readings.{mark_number, name_number, IsPut, ArePutTo};
 
 use tetra_bits::{Bits, Mark, Table};
 use tetra_rm::AccessCode;
-use tetra_session::{Front, FrontField, read_heard};
+use tetra_session::{FrontField, is_good, read_heard};
 use tetra_settings::FieldName;
 
 /// What is read of a field: the number of its name (0 AACH, 1 BSCH, 2 a half slot, 3 SCH/HU, 4 SCH/F, 5 TCH/7.2, 6 TCH/4.8,
@@ -104,10 +106,16 @@ impl Table for TetraField {
     }
 }
 
-/// Reads a field of a front, and writes what is read of it. `message` is filled on the way.
-fn put_field(code: &AccessCode, heard: &FrontField, message: &mut Bits, out: &mut TetraField)
+/// Reads a field of a front, and writes what is read of it. Answers whether it is Good. `message` is filled on the way.
+fn put_field(
+    code: &AccessCode,
+    heard: &FrontField,
+    message: &mut Bits,
+    out: &mut TetraField,
+) -> bool
     requires { IsFrontField heard.now }
-    ensures { IsPut (read_field code.now.0 heard.now) out.new }
+    ensures put { IsPut (read_field code.now.0 heard.now) out.new }
+    ensures good { result ≡ is_good (read_field code.now.0 heard.now).reading.mark }
 {
     let outcome = read_heard(code, heard, message, out);
     out.name = name_number(heard.name);
@@ -116,18 +124,27 @@ fn put_field(code: &AccessCode, heard: &FrontField, message: &mut Bits, out: &mu
     out.bits = message.len() as u16;
     out.rows = out.count() as u16;
     put_message(message, &mut out.message);
+    is_good(outcome.mark)
 }
 
-/// Writes what is read of a slot by its front. One field is read at a time.
-#[inline(never)]
-pub fn put_front(code: &AccessCode, front: &Front, out: &mut TetraReading)
-    requires { IsFront front.now }
-    ensures { ArePut (read_front code.now.0 front.now) out.new }
+/// Reads the fields of a front from place `from` on, one at a time, and writes what is read of each at its place. Answers
+/// whether the last of them is Good. `message` is filled on the way.
+pub fn put_fields(
+    code: &AccessCode,
+    fields: &[FrontField],
+    from: usize,
+    message: &mut Bits,
+    out: &mut [TetraField; 4],
+) -> bool
+    requires formed { All IsFrontField fields.now }
+    requires few { length fields.now ≤ 4 }
+    ensures put { ArePutTo (map (read_field code.now.0) fields.now) out.old from
+        → ArePutTo (map (read_field code.now.0) fields.now) out.new (length fields.now) }
+    ensures last { from ≡ 0 → IsLastGood code.now.0 fields.now result }
 {
-    out.letter = front.letter;
-    out.count = front.fields.len() as u8;
-    let mut message = Bits::new();
-    for i in 0..front.fields.len() {
-        put_field(code, &front.fields[i], &mut message, &mut out.fields[i]);
+    let mut good = false;
+    for i in from..fields.len() {
+        good = put_field(code, &fields[i], message, &mut out[i]);
     }
+    good
 }

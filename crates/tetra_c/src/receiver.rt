@@ -3,8 +3,7 @@ ghost use Rattle.std.specs.Prelude.{◌≡◌, ◌≢◌, ◌<◌, ◌≤◌, �
 ghost use Rattle.std.specs.Result.{result_err};
 ghost use Rattle.tetra_settings.specs.Slots.{timeslot_of};
 ghost use Rattle.tetra_settings.specs.Validity.{IsValid};
-ghost use Rattle.tetra_session.specs.Fronts.{IsFront};
-ghost use Rattle.tetra_session.specs.Heard.{HeardStands, slot_front, slot_reading};
+ghost use Rattle.tetra_session.specs.Heard.{HeardStands, slot_reading};
 ghost use Rattle.tetra_c.specs.Faults.{answer_of, number_of};
 ghost use Rattle.tetra_c.specs.KeptWords.{KeptStands};
 ghost use Rattle.tetra_c.specs.Readings.{ArePut};
@@ -14,14 +13,15 @@ ghost use Rattle.tetra_c.specs.Values.{soft_values};
 
 use crate::fault::Fault;
 use crate::kept_words::TetraKeptWords;
-use crate::readings::{TetraField, TetraReading, put_front};
+use crate::readings::{TetraField, TetraReading, put_fields};
 use crate::rings::is_ring;
 use crate::settings::{TetraSettings, checked_settings};
 use crate::soft::slot_values;
 use arrayvec::ArrayVec;
+use tetra_bits::Bits;
 use tetra_rm::AccessCode;
 use tetra_scramble::key;
-use tetra_session::{Front, Work, depth, hear_turn};
+use tetra_session::{Front, Work, depth, hear_before_load, hear_rest};
 use tetra_settings::{Settings, clock};
 
 /// A receiver: its settings, how many slots it has read, and what is kept of timeslots 1 to 4. The caller keeps it. `work`
@@ -117,63 +117,74 @@ pub fn empty_front() -> Front {
     }
 }
 
-/// Hears the slot numbered `turn`: writes its front over one that is there, and takes it into the lane of its timeslot.
+/// Reads the slot numbered `turn`, writes what is read of it, and takes it into the lane of its timeslot. It is heard in two
+/// steps, so that a half slot is decoded once, and tells then where the load stands.
 #[inline(never)]
-pub fn hear(
+fn read_slot(
     settings: &Settings,
     turn: u32,
     slot: &[i8; 510],
     lane: &mut TetraKeptWords,
-    front: &mut Front,
+    reading: &mut TetraReading,
 )
     requires { IsValid settings.now }
-    ensures front { (history : List (List ℤ)) → turn ≡ length history
+    ensures reading { (history : List (List ℤ)) → turn ≡ length history
         → HeardStands KeptStands settings.now turn history lane.old
-        → front.new ≡ slot_front settings.now history (soft_values slot.now) }
+        → ArePut (slot_reading settings.now history (soft_values slot.now)) reading.new }
     ensures stands { (history : List (List ℤ)) → turn ≡ length history
         → HeardStands KeptStands settings.now turn history lane.old
         → HeardStands KeptStands settings.now turn (history ++ soft_values slot.now ∷ []) lane.new }
-    ensures formed { IsFront front.new }
 {
-    hear_turn(
-        settings,
-        &key(&settings.colour),
-        turn,
-        lane,
-        &mut Work::new(),
-        &slot_values(slot),
-        front,
+    let key = key(&settings.colour);
+    let code = AccessCode::of(&settings.rows);
+    let soft = slot_values(slot);
+    let mut work = Work::new();
+    let mut message = Bits::new();
+    let mut front = empty_front();
+    hear_before_load(settings, &key, turn, &mut work, &soft, &mut front);
+    let begun = front.fields.len();
+    let last_good = put_fields(&code, &front.fields, 0, &mut message, &mut reading.fields);
+    hear_rest(
+        settings, &key, turn, lane, last_good, &mut work, &soft, &mut front,
     );
+    put_fields(
+        &code,
+        &front.fields,
+        begun,
+        &mut message,
+        &mut reading.fields,
+    );
+    reading.letter = front.letter;
+    reading.count = front.fields.len() as u8;
 }
 
-/// Hears the slot whose turn it is, and writes its front over one that is there. Gives the settings.
-pub fn hear_next(
+/// Reads the slot whose turn it is, and writes what is read of it.
+fn read_next(
     receiver: &mut TetraReceiver,
     slot: &[i8; 510],
-    front: &mut Front,
-) -> Result<Settings, Fault>
+    reading: &mut TetraReading,
+) -> Result<(), Fault>
     ensures fault { result_err result ≡ receiver_fault receiver.old }
-    ensures value { IfOk result (λ found. found ≡ settings_of receiver.old.settings) }
-    ensures front { IsOk result → (settings : Settings) (history : List (List ℤ)) → ReceiverIs settings history receiver.old
-        → front.new ≡ slot_front settings history (soft_values slot.now) }
+    ensures reading { IsOk result → (settings : Settings) (history : List (List ℤ)) → ReceiverIs settings history receiver.old
+        → ArePut (slot_reading settings history (soft_values slot.now)) reading.new }
     ensures stands { IsOk result → (settings : Settings) (history : List (List ℤ)) → ReceiverIs settings history receiver.old
         → ReceiverIs settings (history ++ soft_values slot.now ∷ []) receiver.new }
     ensures settings { receiver.new.settings ≡ receiver.old.settings }
     ensures turn { IsOk result → receiver.new.turn ≡ receiver.old.turn + 1 }
+    ensures reading_kept { IsErr result → reading.new ≡ reading.old }
     ensures kept { IsErr result → receiver.new ≡ receiver.old }
-    ensures formed { IsOk result → IsFront front.new }
 {
     let settings = ready(receiver)?;
     let at = lane_at(&settings, receiver.turn);
-    hear(
+    read_slot(
         &settings,
         receiver.turn,
         slot,
         &mut receiver.lanes[at],
-        front,
+        reading,
     );
     receiver.turn += 1;
-    Ok(settings)
+    Ok(())
 }
 
 /// Reads the slot whose turn it is from its 510 values. Answers 0, or the number of a fault, and then nothing is written
@@ -198,12 +209,8 @@ pub extern "C" fn tetra_receiver_slot(
     ensures reading_kept { result ≢ pos 0 → reading.new ≡ reading.old }
     ensures receiver_kept { result ≢ pos 0 → receiver.new ≡ receiver.old }
 {
-    let mut front = empty_front();
-    match hear_next(receiver, slot, &mut front) {
-        Ok(settings) => {
-            put_front(&AccessCode::of(&settings.rows), &front, reading);
-            0
-        }
+    match read_next(receiver, slot, reading) {
+        Ok(()) => 0,
         Err(fault) => fault.number(),
     }
 }

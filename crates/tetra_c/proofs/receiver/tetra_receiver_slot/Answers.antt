@@ -1,17 +1,10 @@
-use Rattle.std.proofs.Common.{rules, ◌≡◌, negsuc, refl, sym, ◌∙◌, subst}
+use Rattle.std.proofs.Common.{rules, ◌≡◌, negsuc, refl, sym}
 use Rattle.tetra_c.specs.Faults.{number_of}
-use Rattle.tetra_c.specs.Readings.{ArePut}
-use Rattle.tetra_c.specs.Values.{soft_values}
-use Rattle.tetra_c.proofs.Fronts.{front_read}
 use Rattle.tetra_c.proofs.NeverKeptWords.{words_never_kept}
 use Rattle.tetra_c.proofs.receiver.tetra_receiver_slot.Goals as goal
 
 pub returns-in-Ok-clause-reading : goal.returns-in-Ok-clause-reading
-returns-in-Ok-clause-reading c = λ done settings history h.
-    subst (λ reading. ArePut reading c.put_front.new.out)
-    (front_read c.in-Ok.settings settings history (soft_values c.args.slot.now) c.hear_next.new.front (c.in-Ok.ensures.value ∙ h.same)
-    (c.in-Ok.ensures.front refl settings history h))
-    (rw c.of.ensures at c.put_front.ensures)
+returns-in-Ok-clause-reading c = λ done. c.in-Ok.ensures.reading refl
 
 pub returns-in-Ok-clause-stands : goal.returns-in-Ok-clause-stands
 returns-in-Ok-clause-stands c = λ done. c.in-Ok.ensures.stands refl

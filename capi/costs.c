@@ -1,13 +1,13 @@
 /* What the calls cost over a file of cases: `costs time FILE REPEATS` prints microseconds of processor time per call for each
- * row, the best of several samples, each of which goes over its slots REPEATS times (1 to 1000), and `costs stack FILE` the most
- * bytes of stack that each call takes over all slots. */
+ * row, one sample that goes over its slots REPEATS times (1 to 1000), and `costs stack FILE` the most bytes of stack that each
+ * call takes over all slots. */
 #define _DEFAULT_SOURCE
 #include "cases.h"
 #include <pthread.h>
 #include <sys/mman.h>
 #include <time.h>
 
-enum { MOST_SLOTS = 4320, PASSES = 5, MOST_REPEATS = 1000, ROOM = 1 << 21, PAINT = 0xAA };
+enum { MOST_SLOTS = 4320, MOST_REPEATS = 1000, ROOM = 1 << 21, PAINT = 0xAA };
 
 static struct slot_case slots[MOST_SLOTS];
 static struct check_case checked;
@@ -85,15 +85,10 @@ static double now(void)
 
 static double microseconds(void (*call)(const struct slot_case *), long repeats)
 {
-    double best = 1e12;
-    for (int turn = 0; turn < PASSES; turn++) {
-        double begun = now(), spent;
-        for (long repeat = 0; repeat < repeats; repeat++)
-            pass(call);
-        spent = (now() - begun) / (double)repeats / count;
-        best = spent < best ? spent : best;
-    }
-    return best;
+    double begun = now();
+    for (long repeat = 0; repeat < repeats; repeat++)
+        pass(call);
+    return (now() - begun) / (double)repeats / count;
 }
 
 static void (*measured)(const struct slot_case *);
